@@ -1,0 +1,63 @@
+-- The event list keeps the latest 48, oldest first, and knows which of them an earlier 0x11 has not sent.
+-- Assumes nothing.
+use mathlib.Core.List.{List}
+use Prim.Native.Nat.{ℕ, _+_, _*_, _-_, _%_, min}
+use lib.ListN.{drop, getD, replicate}
+use Rattle.laws.specs.Fold.{shifted}
+use Rattle.events.specs.declared.Event.{Event}
+use Rattle.events.specs.declared.Events.{Events}
+
+-- the event list keeps the latest 48
+abbrev pub capacity : ℕ
+capacity = 48
+
+-- event time is the seconds modulo 2^24
+abbrev pub eventAt : ℕ → ℕ → Event
+eventAt seconds number = record { time = seconds % 16777216; number = number }
+
+-- what stands where no event is
+abbrev pub noEvent : Event
+noEvent = record { time = 0; number = 0 }
+
+-- three time bytes and the event number, low byte first, as one number of 32 bits
+unfoldable pub fourBytes : Event → ℕ
+fourBytes e = e .time % 16777216 + 16777216 * (e .number)
+
+-- the latest n of the places
+unfoldable pub latest : ℕ → Events → List Event
+latest n e = drop (capacity - n) (e .list)
+
+-- how many are kept, and how many of those no 0x11 has sent
+abbrev pub keptCount : Events → ℕ
+keptCount e = min capacity (e .kept)
+
+abbrev pub newCount : Events → ℕ
+newCount e = min (keptCount e) (e .unsent)
+
+-- all that are kept, and those not yet sent by an earlier 0x11; oldest first
+abbrev pub keptOf : Events → List Event
+keptOf e = latest (keptCount e) e
+
+abbrev pub newOf : Events → List Event
+newOf e = latest (newCount e) e
+
+-- no event yet
+unfoldable pub noEvents : Events
+noEvents = record { list = replicate capacity noEvent; kept = 0; unsent = 0 }
+
+-- one event more, the oldest gone if there is no place
+unfoldable pub addOf : Events → ℕ → ℕ → Events
+addOf e seconds number =
+    record {
+      list = shifted (e .list) (eventAt seconds number);
+      kept = min capacity (e .kept + 1);
+      unsent = min capacity (e .unsent + 1);
+    }
+
+-- all are sent
+unfoldable pub sentOf : Events → Events
+sentOf e = record { list = e .list; kept = e .kept; unsent = 0 }
+
+-- one of a list of events by its place
+abbrev pub placed : List Event → ℕ → Event
+placed es n = getD es n noEvent

@@ -1,0 +1,136 @@
+// The events that the board keeps: the latest, oldest first, and which of them are new.
+ghost use mathlib.Core.Path.{_≡_};
+ghost use Prim.Native.Nat.{_+_, _≤_, min};
+ghost use Rattle.events.specs.Events.{capacity, fourBytes, keptCount, newCount, latest, keptOf, newOf, noEvents, addOf, sentOf, placed};
+
+// How many events are kept.
+pub const CAPACITY: usize = 48;
+
+// The time in seconds modulo 2^24, and the event's number.
+pub struct Event {
+    pub time: u32,
+    pub number: u8,
+}
+
+// The places that are used are the last ones: `kept` of them, of which the last `unsent` are new.
+pub struct Events {
+    pub list: [Event; CAPACITY],
+    pub kept: u8,
+    pub unsent: u8,
+}
+
+impl Events {
+    pub fn none() -> Events
+        ensures { λ r. ⌜ r ≡ noEvents ⌝ }
+    {
+        Events {
+            list: [Event { time: 0, number: 0 }; CAPACITY],
+            kept: 0,
+            unsent: 0,
+        }
+    }
+
+    // One event more; the oldest goes where there is no place for it.
+    pub fn add(self, seconds: u32, number: u8) -> Events
+        ensures { λ r. ⌜ r ≡ addOf self seconds number ⌝ }
+    {
+        let mut list = self.list;
+        let mut i = 0;
+        while i < CAPACITY - 1 {
+            list[i] = list[i + 1];
+            i += 1;
+        }
+        list[CAPACITY - 1] = Event {
+            time: seconds % 16777216,
+            number,
+        };
+        let kept = one_more(self.kept);
+        let unsent = one_more(self.unsent);
+        Events { list, kept, unsent }
+    }
+
+    // Nothing is new any more.
+    pub fn sent(mut self) -> Events
+        ensures { λ r. ⌜ r ≡ sentOf self ⌝ }
+    {
+        self.unsent = 0;
+        self
+    }
+
+    // How many are kept.
+    pub fn kept_count(self) -> u8
+        ensures { λ r. ⌜ (r ≡ keptCount self) × (r ≤ capacity) ⌝ }
+    {
+        lesser(CAPACITY as u8, self.kept)
+    }
+
+    // How many are new.
+    pub fn new_count(self) -> u8
+        ensures { λ r. ⌜ (r ≡ newCount self) × (r ≤ capacity) ⌝ }
+    {
+        lesser(lesser(CAPACITY as u8, self.kept), self.unsent)
+    }
+
+    // The n-th that is kept, from 0, oldest first; no event where there is none.
+    pub fn kept_at(self, n: u8) -> Event
+        ensures { λ r. ⌜ r ≡ placed (keptOf self) n ⌝ }
+    {
+        self.latest_at(self.kept_count(), n)
+    }
+
+    // The n-th that is new, from 0, oldest first; no event where there is none.
+    pub fn new_at(self, n: u8) -> Event
+        ensures { λ r. ⌜ r ≡ placed (newOf self) n ⌝ }
+    {
+        self.latest_at(self.new_count(), n)
+    }
+
+    fn latest_at(self, count: u8, n: u8) -> Event
+        ensures { λ r. ⌜ r ≡ placed (latest count self) n ⌝ }
+    {
+        let at = from_end(count) + (n as usize);
+        if at < CAPACITY {
+            let list = self.list;
+            list[at]
+        } else {
+            Event { time: 0, number: 0 }
+        }
+    }
+}
+
+impl Event {
+    // The three time bytes and the number, low byte first.
+    pub fn four_bytes(self) -> u32
+        ensures { λ r. ⌜ r ≡ fourBytes self ⌝ }
+    {
+        self.time % 16777216 + 16777216 * (self.number as u32)
+    }
+}
+
+fn one_more(n: u8) -> u8
+    ensures { λ r. ⌜ r ≡ min capacity (n + 1) ⌝ }
+{
+    if (n as usize) < CAPACITY {
+        n + 1
+    } else {
+        CAPACITY as u8
+    }
+}
+
+fn lesser(a: u8, b: u8) -> u8
+    ensures { λ r. ⌜ (r ≡ min a b) × (r ≤ a) ⌝ }
+{
+    if b < a { b } else { a }
+}
+
+// Where the latest `count` begin.
+fn from_end(count: u8) -> usize
+    ensures { λ r. ⌜ (r ≡ Prim.Native.Nat._-_ capacity count) × (r ≤ capacity) ⌝ }
+{
+    let count = count as usize;
+    if count < CAPACITY {
+        CAPACITY - count
+    } else {
+        0
+    }
+}
