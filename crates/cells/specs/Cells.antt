@@ -1,12 +1,16 @@
 -- What is read off the cells, given in 0.1 mV; cell 1 is the first.
 -- Assumes nothing.
 use mathlib.Core.Bool.{Bool, _&&_}
-use mathlib.Core.List.{List}
+use mathlib.Core.List.{List, _++_}
 use Prim.Native.Nat.{ℕ, _+_, _*_, _-_, _/_, min, max}
 use lib.Dec.{ltb}
-use lib.ListN.{take}
+use lib.ListN.{length, take, replicate}
 use Rattle.laws.specs.Fold.{gather, packed}
 use Rattle.cells.specs.declared.Extremes.{Extremes}
+
+-- the cells as they are kept: registers 0 to 15, those past the cell count 0
+abbrev pub keptOf : List ℕ → List ℕ
+keptOf cells = take 16 cells ++ replicate (16 - length cells) 0
 
 -- lowest and highest cell
 abbrev pub lowestOf : List ℕ → ℕ

@@ -2,7 +2,7 @@
 ghost use mathlib.Core.Path.{_≡_};
 ghost use Prim.Native.Nat.{_-_, _≤_, min, max};
 ghost use Rattle.laws.specs.Fold.{bitOf};
-ghost use Rattle.cells.specs.Cells.{extremesOf, sumOf, decides, decisionOf, millivoltsOf};
+ghost use Rattle.cells.specs.Cells.{keptOf, extremesOf, sumOf, decides, decisionOf, millivoltsOf};
 
 // The lowest and the highest cell.
 pub struct Extremes {
@@ -32,6 +32,20 @@ impl Extremes {
     {
         over(self.highest, self.lowest)
     }
+}
+
+// Up to 16 cells as they are kept, zeros after them.
+pub fn kept(cells: &[u16]) -> [u16; 16]
+    ensures { λ r. ⌜ r ≡ keptOf (now (cells .entry)) ⌝ }
+{
+    let n = up_to_16(cells.len());
+    let mut all = [0u16; 16];
+    let mut i = 0;
+    while i < n {
+        all[i] = cells[i];
+        i += 1;
+    }
+    all
 }
 
 // The exact sum of up to 16 cells.

@@ -1,3 +1,4 @@
 pub mod Folds
 pub mod Bits
 pub mod Shift
+pub mod Copies

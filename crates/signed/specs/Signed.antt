@@ -1,7 +1,9 @@
 -- Signed numbers at the edge of the board: what they are as sixteen bits, their two sides of zero, and whole degrees.
 -- Assumes nothing.
 use Prim.Native.Nat.{ℕ, suc, _+_, _-_, _/_, min}
+use mathlib.Core.Bool.{cond}
 use lib.IntN.{ℤ, pos, negsuc}
+use lib.Signed.{leZ}
 use mir.Syntax.{w8, w16}
 use mir.Val.{toZ, ofZ}
 
@@ -26,6 +28,13 @@ above (negsuc n) = 0
 abbrev pub below : ℤ → ℕ
 below (pos n) = 0
 below (negsuc n) = suc n
+
+-- the lower and the higher of two
+abbrev pub lowerOf : ℤ → ℤ → ℤ
+lowerOf a b = cond (leZ a b) a b
+
+abbrev pub higherOf : ℤ → ℤ → ℤ
+higherOf a b = cond (leZ a b) b a
 
 -- tenths in whole °C, rounded toward minus infinity
 abbrev pub wholeDegrees : ℤ → ℤ

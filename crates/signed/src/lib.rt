@@ -1,7 +1,7 @@
 // Signed numbers at the edge of the board: currents and temperatures come signed, and leave as bits or unsigned numbers.
 ghost use mathlib.Core.Path.{_≡_};
 ghost use Prim.Native.Nat.{_+_, _-_, _/_, _%_, min, max};
-ghost use Rattle.signed.specs.Signed.{lift, bitsOf, fromBits, above, below, degreesOf};
+ghost use Rattle.signed.specs.Signed.{lift, bitsOf, fromBits, above, below, lowerOf, higherOf, degreesOf};
 
 // A temperature in the width of a product with ten.
 pub fn wide(tenths: i16) -> i32
@@ -22,6 +22,20 @@ pub fn negative(current: i32) -> u32
     ensures { λ r. ⌜ r ≡ below current ⌝ }
 {
     under_zero(lifted_32(current))
+}
+
+// The lower of two temperatures.
+pub fn lower(a: i16, b: i16) -> i16
+    ensures { λ r. ⌜ r ≡ lowerOf a b ⌝ }
+{
+    if a <= b { a } else { b }
+}
+
+// The higher of two temperatures.
+pub fn higher(a: i16, b: i16) -> i16
+    ensures { λ r. ⌜ r ≡ higherOf a b ⌝ }
+{
+    if a <= b { b } else { a }
 }
 
 // A signed register as its sixteen bits.

@@ -1,6 +1,6 @@
+-- The places before the latest are passed over. Assumes nothing.
 use Rattle.laws.proofs.Shift.{length-from}
 use Prim.Native.Nat.{_-_, _+_}
--- The places before the latest are passed over. Assumes nothing.
 use mathlib.Core.Path.{_≡_, sym, _∙_}
 use lib.ListN.{length, List·getD-eq-default}
 use lib.Seq.{getD-drop}

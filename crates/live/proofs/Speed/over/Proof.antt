@@ -1,6 +1,6 @@
+-- The window is summed whole: it has ten counts. Assumes nothing.
 use Prim.Native.Nat.{_≤_}
 use lib.ListN.{length, take}
--- The window is summed whole: it has ten counts. Assumes nothing.
 use mathlib.Core.Path.{_≡_}
 use borrow.Author.Tests.{eq-eqb, ne-eqb}
 use lib.Seq.{take-all}

@@ -1,6 +1,6 @@
+-- By the two tests. Assumes nothing.
 use mathlib.Core.Path.{sym, _∙_}
 use borrow.Author.Tests.{not-true, not-false}
--- By the two tests. Assumes nothing.
 use Rattle.settings.specs.Settings.{judgedOf}
 use borrow.Author.Needs.{needs}
 use Rattle.settings.proofs.Settings.judged.Statement.{statement}

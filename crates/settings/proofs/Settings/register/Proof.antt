@@ -1,6 +1,6 @@
-use mir.Syntax.{w16}
-use mir.Facts.{toZ-ofZ}
 -- By cases on the register. Assumes nothing.
+use mir.Syntax.{w16}
+use Rattle.signed.proofs.Read.{read}
 use borrow.Author.Tests.{ne-eqb}
 use Rattle.settings.specs.Settings.{registerOf}
 use borrow.Author.Needs.{needs}
@@ -44,7 +44,13 @@ returns-8 c = rw (c .match .keys8)
 
 returns-9 : tie.Need-returns-9
 unfolding registerOf
-returns-9 c = rw (c .before .before .match .keys9, c .to-bits .ensures, toZ-ofZ {w = w16} (record { sfits = c .before .struct-told .given .1 .1 .1 .1 .1 .1 .1 .1 .0 .1 }))
+returns-9 c =
+    let told = c .before in
+    rw (
+      told .before .match .keys9,
+      c .to-bits .ensures,
+      read w16 (told .before .before .args .self .r320) (told .struct-told .given .1 .1 .1 .1 .1 .1 .1 .1 .0 .1),
+    )
 
 returns-10 : tie.Need-returns-10
 unfolding registerOf

@@ -1,0 +1,4 @@
+pub mod Limits
+pub mod Told
+pub mod Switches
+pub mod Calm

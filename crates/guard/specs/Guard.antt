@@ -1,0 +1,140 @@
+-- The seven conditions, in the order of document 01's table: what holds, what recovers, and what is latched after a tick.
+-- The cells enter by their lowest and highest: a cell is at most k exactly if the lowest is (crate `cells`, proofs/Some).
+-- Assumes nothing.
+use mathlib.Core.Bool.{Bool, true, false, _&&_, _||_, not, cond}
+use Prim.Native.Nat.{ℕ, _*_, _-_}
+use lib.Dec.{eqb, leb, ltb}
+use lib.IntN.{ℤ, pos, negsuc, negℤ, _+ℤ_, _-ℤ_, _*ℤ_}
+use lib.Signed.{leZ, ltZ}
+use Rattle.cells.specs.declared.Extremes.{Extremes}
+use Rattle.settings.specs.declared.Settings.{Settings}
+use Rattle.readings.specs.declared.Readings.{Readings}
+use Rattle.readings.specs.Readings.{connected}
+use Rattle.guard.specs.declared.Conditions.{Conditions}
+use Rattle.guard.specs.declared.Waits.{Waits}
+use Rattle.guard.specs.declared.Guard.{Guard}
+
+-- UV holds: a cell ≤ 10·r316; recovers: all cells > 10·r316
+abbrev pub cellTooLow : Settings → Extremes → Bool
+cellTooLow s e = leb (e .lowest) (10 * (s .r316))
+
+abbrev pub cellsHighEnough : Settings → Extremes → Bool
+cellsHighEnough s e = ltb (10 * (s .r316)) (e .lowest)
+
+-- OV holds: a cell ≥ 10·r315; recovers: all < 10·r315 - 500
+abbrev pub cellTooHigh : Settings → Extremes → Bool
+cellTooHigh s e = leb (10 * (s .r315)) (e .highest)
+
+abbrev pub cellsLowEnough : Settings → Extremes → Bool
+cellsLowEnough s e = ltb (e .highest) (10 * (s .r315) - 500)
+
+-- of a sensor: ≥ 10·r319; < 10·r319 - 50
+abbrev pub hot : Settings → ℤ → Bool
+hot s t = leZ (pos (10 * (s .r319))) t
+
+abbrev pub cool : Settings → ℤ → Bool
+cool s t = ltZ t (pos (10 * (s .r319)) -ℤ pos 50)
+
+-- of a sensor: ≤ 10·r320; > 10·r320 + 50
+abbrev pub cold : Settings → ℤ → Bool
+cold s t = leZ t (pos 10 *ℤ (s .r320))
+
+abbrev pub mild : Settings → ℤ → Bool
+mild s t = ltZ (pos 10 *ℤ (s .r320) +ℤ pos 50) t
+
+-- some connected external passes the test; all connected externals do
+abbrev pub someExternal : (ℤ → Bool) → Readings → Bool
+someExternal test r = connected (r .external1) && test (r .external1) || connected (r .external2) && test (r .external2)
+
+abbrev pub allExternals : (ℤ → Bool) → Readings → Bool
+allExternals test r = (not (connected (r .external1)) || test (r .external1)) && (not (connected (r .external2)) || test (r .external2))
+
+-- OT holds: a connected sensor ≥ 10·r319; recovers: all connected < 10·r319 - 50. The internal one is always connected
+abbrev pub sensorHot : Settings → Readings → Bool
+sensorHot s r = hot s (r .internal) || someExternal (hot s) r
+
+abbrev pub sensorsCool : Settings → Readings → Bool
+sensorsCool s r = cool s (r .internal) && allExternals (cool s) r
+
+-- LT holds: a connected external ≤ 10·r320; recovers: an external connected, all such > 10·r320 + 50
+abbrev pub externalCold : Settings → Readings → Bool
+externalCold s r = someExternal (cold s) r
+
+abbrev pub externalsMild : Settings → Readings → Bool
+externalsMild s r = (connected (r .external1) || connected (r .external2)) && allExternals (mild s) r
+
+-- DOC holds: current ≤ -1000·r317
+abbrev pub drawnTooMuch : Settings → Readings → Bool
+drawnTooMuch s r = leZ (r .current) (negℤ (pos (1000 * (s .r317))))
+
+-- current ≥ 1000·r318: COC with the charger, ROC without
+abbrev pub fedTooMuch : Settings → Readings → Bool
+fedTooMuch s r = leZ (pos (1000 * (s .r318))) (r .current)
+
+-- the column 'Holds'
+unfoldable pub holdsOf : Settings → Readings → Extremes → Conditions
+holdsOf s r e =
+    record {
+      uv = cellTooLow s e;
+      ov = cellTooHigh s e;
+      ot = sensorHot s r;
+      doc = drawnTooMuch s r;
+      coc = r .charger && fedTooMuch s r;
+      roc = not (r .charger) && fedTooMuch s r;
+      lt = externalCold s r;
+    }
+
+-- what is left of a wait: 10·r332 ticks, r332 as at the latest tick at which the condition held, all since then without it
+abbrev pub waitOf : Settings → Bool → ℕ → ℕ
+waitOf s holds left = cond holds (10 * (s .r332)) (left - 1)
+
+unfoldable pub waitsOf : Settings → Conditions → Waits → Waits
+waitsOf s holds w =
+    record { doc = waitOf s (holds .doc) (w .doc); coc = waitOf s (holds .coc) (w .coc); roc = waitOf s (holds .roc) (w .roc) }
+
+-- the column 'Recovers', with the waits that are left after this tick; a wait is over when nothing is left of it
+unfoldable pub recoversOf : Settings → Readings → Extremes → Waits → Conditions
+recoversOf s r e left =
+    record {
+      uv = cellsHighEnough s e;
+      ov = cellsLowEnough s e;
+      ot = sensorsCool s r;
+      doc = eqb (left .doc) 0;
+      coc = eqb (left .coc) 0;
+      roc = eqb (left .roc) 0;
+      lt = externalsMild s r;
+    }
+
+-- each latching when it holds and recovering when latched and its recovery holds
+abbrev pub latchOf : Bool → Bool → Bool → Bool
+latchOf latched holds recovers = holds || latched && not recovers
+
+unfoldable pub latchedOf : Conditions → Conditions → Conditions → Conditions
+latchedOf l holds recovers =
+    record {
+      uv = latchOf (l .uv) (holds .uv) (recovers .uv);
+      ov = latchOf (l .ov) (holds .ov) (recovers .ov);
+      ot = latchOf (l .ot) (holds .ot) (recovers .ot);
+      doc = latchOf (l .doc) (holds .doc) (recovers .doc);
+      coc = latchOf (l .coc) (holds .coc) (recovers .coc);
+      roc = latchOf (l .roc) (holds .roc) (recovers .roc);
+      lt = latchOf (l .lt) (holds .lt) (recovers .lt);
+    }
+
+-- nothing latched, no wait
+abbrev pub noConditions : Conditions
+noConditions = record { uv = false; ov = false; ot = false; doc = false; coc = false; roc = false; lt = false }
+
+abbrev pub noWaits : Waits
+noWaits = record { doc = 0; coc = 0; roc = 0 }
+
+abbrev pub noGuard : Guard
+noGuard = record { latched = noConditions; waits = noWaits }
+
+-- a tick of the guard
+unfoldable pub guardOf : Guard → Settings → Readings → Extremes → Guard
+guardOf g s r e =
+    record {
+      latched = latchedOf (g .latched) (holdsOf s r e) (recoversOf s r e (waitsOf s (holdsOf s r e) (g .waits)));
+      waits = waitsOf s (holdsOf s r e) (g .waits);
+    }

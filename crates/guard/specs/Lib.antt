@@ -1,0 +1,4 @@
+pub mod Guard
+pub mod Table
+pub mod Quiet
+mod Facts

@@ -1,0 +1,2 @@
+pub mod Statistics
+mod Facts
