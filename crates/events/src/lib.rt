@@ -72,20 +72,20 @@ impl Events {
     }
 
     // The n-th that is kept, from 0, oldest first; no event where there is none.
-    pub fn kept_at(self, n: u8) -> Event
+    pub fn kept_at(self, n: u16) -> Event
         ensures { λ r. ⌜ r ≡ placed (keptOf self) n ⌝ }
     {
         self.latest_at(self.kept_count(), n)
     }
 
     // The n-th that is new, from 0, oldest first; no event where there is none.
-    pub fn new_at(self, n: u8) -> Event
+    pub fn new_at(self, n: u16) -> Event
         ensures { λ r. ⌜ r ≡ placed (newOf self) n ⌝ }
     {
         self.latest_at(self.new_count(), n)
     }
 
-    fn latest_at(self, count: u8, n: u8) -> Event
+    fn latest_at(self, count: u8, n: u16) -> Event
         ensures { λ r. ⌜ r ≡ placed (latest count self) n ⌝ }
     {
         let at = from_end(count) + (n as usize);

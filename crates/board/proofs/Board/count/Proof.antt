@@ -1,0 +1,15 @@
+-- The statistics are what their call gives, and the other fields stay. Assumes nothing.
+use borrow.Author.Needs.{needs}
+use Rattle.board.specs.Tick.{statisticsOf}
+use Rattle.board.proofs.Board.count.Statement.{statement}
+use Rattle.board.proofs.Board.count.Tie as tie
+
+counted-requires : tie.Need-counted-requires
+counted-requires c κs = search needs
+
+returns : tie.Need-returns
+unfolding statisticsOf
+returns c = rw (c .before .before .counted .ensures)
+
+pub count-spec : {M : Type 1} → statement M
+count-spec = tie.close (tie.spec counted-requires returns)

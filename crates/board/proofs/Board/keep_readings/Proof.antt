@@ -1,0 +1,43 @@
+-- Each reading is kept as it is or as its call gives it, and the other fields stay. Assumes nothing.
+use mir.Syntax.{w16, w32}
+use borrow.Author.Needs.{needs}
+use Rattle.board.specs.Tick.{readingsOf}
+use Rattle.signed.proofs.Read.{read}
+use Rattle.board.proofs.Board.keep_readings.Statement.{statement}
+use Rattle.board.proofs.Board.keep_readings.Tie as tie
+
+kept-requires : tie.Need-kept-requires
+kept-requires c κs = search needs
+
+of-requires : tie.Need-of-requires
+of-requires c κs = search needs
+
+sum-requires : tie.Need-sum-requires
+sum-requires c κs = search needs
+
+measured-requires : tie.Need-measured-requires
+measured-requires c κs = search needs
+
+returns : tie.Need-returns
+unfolding readingsOf
+returns c =
+    let told2 = c .before .before in
+    let measured = told2 .before in
+    let told = measured .before in
+    let sum = told .before in
+    let r = sum .before .before .before .before .args .readings in
+    let fits = told2 .struct-told2 .given .1 in
+    rw (
+      sum .before .before .kept .ensures,
+      sum .before .of .ensures,
+      measured .measured .ensures,
+      sum .sum .ensures .0,
+      read w32 (r .current) (told .struct-told .given .0 .1),
+      read w16 (r .internal) (fits .0 .1),
+      read w16 (r .external1) (fits .1 .0 .1),
+      read w16 (r .external2) (fits .1 .1 .0 .1),
+    )
+
+pub keep-readings-spec : {M : Type 1} → statement M
+keep-readings-spec =
+    tie.close (tie.spec kept-requires of-requires sum-requires measured-requires returns)

@@ -1,0 +1,17 @@
+-- Handover. Events and the 0x11 mark, statistics, readings, speed window, charger presence and switches go to their start values;
+-- 116 takes the lifetime; status becomes 0x97 and the balancing bits 0. Kept: start numbers, settings, lifetime with its
+-- tenths, latched conditions, waits. Nothing else may be kept.
+-- Assumes nothing.
+use mathlib.Core.Bool.{cond}
+use Rattle.board.specs.declared.Board.{Board}
+use Rattle.board.specs.declared.Answer.{Answer}
+use Rattle.board.specs.State.{usable}
+use Rattle.board.specs.Start.{newHire}
+
+-- the pack as it was, and a new hire
+unfoldable pub handedOver : Board → Board
+handedOver b = record { pack = b .pack; hire = newHire (b .pack .clock .seconds) }
+
+-- on a usable board handover never refuses
+unfoldable pub handoverOf : Board → Answer
+handoverOf b = record { number = cond (usable b) 0 21; board = cond (usable b) (handedOver b) b }

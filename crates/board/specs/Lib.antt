@@ -1,0 +1,5 @@
+pub mod State
+pub mod Start
+pub mod Tick
+pub mod Registers
+pub mod Handover
