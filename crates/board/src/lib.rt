@@ -1,8 +1,11 @@
 // The board of one pack: a state that goes in by value and comes back. It takes a tick every 100 ms, a frame for each request,
 // and a handover between two riders; what it shows can be read at any time.
+mod frame;
 mod handover;
 mod registers;
+mod request;
 mod tick;
+mod wire;
 
 ghost use mathlib.Core.Bool.{cond};
 ghost use mathlib.Core.Path.{_≡_};

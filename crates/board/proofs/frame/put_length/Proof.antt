@@ -1,0 +1,27 @@
+-- The byte is put where there is one. Assumes nothing.
+use mathlib.Core.Path.{refl}
+use Rattle.board.proofs.Writing.{none}
+use borrow.Author.Needs.{needs}
+use Rattle.board.proofs.frame.put_length.Statement.{statement}
+use Rattle.board.proofs.frame.put_length.Tie as tie
+
+mul-put : tie.Need-mul-put
+mul-put c = search needs
+
+cast-put : tie.Need-cast-put
+cast-put c = search needs
+
+put-requires : tie.Need-put-requires
+put-requires c κs = search needs
+
+same-length : tie.Need-same-length
+same-length c = search needs
+
+returns : tie.Need-returns
+returns c = let put = c .before .before in rw (put .before .before .if1 .taken) (refl, put .put .ensures)
+
+returns-2 : tie.Need-returns-2
+returns-2 c = rw (c .if1 .left) (refl, none)
+
+pub put-length-spec : {M : Type 1} → statement M
+put-length-spec = tie.close (tie.spec mul-put cast-put put-requires same-length returns returns-2)

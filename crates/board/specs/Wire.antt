@@ -1,0 +1,53 @@
+-- How bytes stand on the wire.
+-- Assumes nothing.
+use mathlib.Core.Bool.{Bool, cond}
+use mathlib.Core.List.{List, [], _∷_, _++_}
+use mathlib.Core.Path.{_≡_}
+use Prim.Native.Nat.{ℕ, zero, suc, _+_, _-_, _*_, _/_, _%_}
+use lib.ListN.{length, take, getD, replicate}
+use Rattle.crc.specs.Crc.{crcOf}
+
+-- sixteen bits, low byte first; and high byte first, as 0x03 and 0x10 have them
+abbrev pub le16 : ℕ → List ℕ
+le16 w = w % 256 ∷ w / 256 ∷ []
+
+abbrev pub be16 : ℕ → List ℕ
+be16 w = w / 256 ∷ w % 256 ∷ []
+
+abbrev pub word16 : Bool → ℕ → List ℕ
+word16 highFirst w = cond highFirst (be16 w) (le16 w)
+
+-- four bytes, low byte first
+abbrev pub le32 : ℕ → List ℕ
+le32 n = le16 (n % 65536) ++ le16 (n / 65536)
+
+-- n numbers in a row, f at, f (at + 1), .., each by its bytes
+unfoldable pub words : (ℕ → List ℕ) → (ℕ → ℕ) → ℕ → ℕ → List ℕ
+words bytes f at zero = []
+words bytes f at (suc n) = words bytes f at n ++ bytes (f (at + n))
+
+-- sixteen bits of a request, high byte first; and its last two bytes, low byte first
+abbrev pub be16At : List ℕ → ℕ → ℕ
+be16At s i = 256 * getD s i 0 + getD s (i + 1) 0
+
+abbrev pub le16At : List ℕ → ℕ → ℕ
+le16At s i = getD s i 0 + 256 * getD s (i + 1) 0
+
+-- the bytes, then their CRC, sent low byte first
+unfoldable pub sealed : List ℕ → List ℕ
+sealed xs = xs ++ le16 (crcOf xs)
+
+-- the bytes, then zeros up to n bytes
+unfoldable pub padded : ℕ → List ℕ → List ℕ
+padded n xs = xs ++ replicate (n - length xs) 0
+
+-- What a write leaves. Each is a record, so that a law's arguments are read off it.
+
+-- `after` is as long as `before`, and is `before` up to `at`, and then `bytes`
+pub record Wrote (before : List ℕ) (at : ℕ) (bytes after : List ℕ) : Type 0 where
+  pub same : length after ≡ length before
+  pub wrote : take (at + length bytes) after ≡ take at before ++ bytes
+
+-- `after` is `bytes`, and zeros up to the length of `before`
+pub record Filled (before bytes after : List ℕ) : Type 0 where
+  pub filled : after ≡ padded (length before) bytes

@@ -1,0 +1,335 @@
+// A frame: one whole request, answered into a lent buffer.
+ghost use mathlib.Core.Bool.{cond};
+ghost use mathlib.Core.Path.{_≡_};
+ghost use Prim.Native.Nat.{_+_, _*_, _≤_};
+ghost use lib.ListN.{length};
+ghost use Rattle.board.specs.declared.request.Request.the-variants as request;
+ghost use Rattle.board.specs.State.{withEvents, withStatistics, withSettings};
+ghost use Rattle.board.specs.Wire.{word16, words, sealed, Wrote, Filled};
+ghost use Rattle.board.specs.Frames.{valueAt, eventLongs, draftedOf, marks, Frames};
+ghost use Rattle.board.specs.Replies.{hasLength, highFirst, countOf, halfOf, temperatureAt, wordOf, lengthByte, replyOf, Answers};
+ghost use Rattle.events.specs.Events.{keptOf, newOf, sentOf};
+ghost use Rattle.statistics.specs.Statistics.{clearedAt};
+use crate::Answer;
+use crate::Board;
+use crate::registers::Shown;
+use crate::request::Query;
+use crate::request::Request;
+use crate::request::high_first_at;
+use crate::request::parsed;
+use crate::wire::ack;
+use crate::wire::begin;
+use crate::wire::nack;
+use crate::wire::put;
+use crate::wire::put_word;
+use crate::wire::seal;
+use crate::wire::zero_from;
+use events::Events;
+use settings::Draft;
+use settings::Settings;
+use statistics::Statistics;
+
+impl Board {
+    // The number, the board after it, and every byte of the reply buffer, whatever its length.
+    pub fn frame(self, request: &[u8], reply: &mut [u8]) -> Answer
+        ensures { λ r. ⌜ Frames self (now (request .entry)) (now (reply .entry)) r (now (reply .exit)) ⌝ }
+    {
+        if !self.is_usable() {
+            zero_from(reply, 0);
+            return Answer {
+                number: 21,
+                board: self,
+            };
+        }
+        if reply.len() < 259 {
+            zero_from(reply, 0);
+            return Answer {
+                number: 1,
+                board: self,
+            };
+        }
+        let asked = parsed(request);
+        self.answer(request, asked, reply)
+    }
+
+    fn answer(self, s: &[u8], asked: Request, reply: &mut [u8]) -> Answer
+        requires { ⌜ 259 ≤ length (now reply) ⌝ }
+        ensures { λ r. ⌜ Answers self (now (s .entry)) asked (now (reply .entry)) r (now (reply .exit)) ⌝ }
+    {
+        match asked {
+            Request::Foreign => {
+                zero_from(reply, 0);
+                Answer {
+                    number: 2,
+                    board: self,
+                }
+            }
+            Request::Damaged(command) => {
+                nack(reply, command, 0x01);
+                Answer {
+                    number: 3,
+                    board: self,
+                }
+            }
+            Request::Refused(command) => {
+                nack(reply, command, 0x00);
+                Answer {
+                    number: 4,
+                    board: self,
+                }
+            }
+            Request::ClearEvents => {
+                ack(reply, 0x02);
+                let board = self.with_events(Events::none());
+                Answer { number: 0, board }
+            }
+            Request::ClearStatistics => {
+                ack(reply, 0x02);
+                let board = self.clear_statistics();
+                Answer { number: 0, board }
+            }
+            Request::Write { from, count } => self.write(s, from, count, reply),
+            Request::Read(query) => self.read(s, query, reply),
+        }
+    }
+
+    // The write goes through the one judgement of settings; refused, it leaves the settings that stood.
+    fn write(self, s: &[u8], from: u8, count: u8, reply: &mut [u8]) -> Answer
+        requires { ⌜ 259 ≤ length (now reply) ⌝ }
+        ensures { λ r. ⌜ Answers self (now (s .entry)) (request.Write from count) (now (reply .entry)) r (now (reply .exit)) ⌝ }
+    {
+        let written = drafted(self.pack.settings.draft(), s, from, count).finish();
+        let verdict = written.verdict;
+        let number = verdict.number();
+        let board = self.with_settings(written.settings);
+        if number != 0 {
+            nack(reply, 0x10, 0x00);
+            return Answer { number, board };
+        }
+        begin(reply, 0x10);
+        put_word(reply, 2, true, 300 + (from as u16));
+        put_word(reply, 4, true, count as u16);
+        seal(reply, 6);
+        Answer { number, board }
+    }
+
+    // A query is answered by its words; nothing changes but 0x11's mark.
+    fn read(self, s: &[u8], query: Query, reply: &mut [u8]) -> Answer
+        requires { ⌜ 259 ≤ length (now reply) ⌝ }
+        ensures { λ r. ⌜ Answers self (now (s .entry)) (request.Read query) (now (reply .entry)) r (now (reply .exit)) ⌝ }
+    {
+        let count = self.count_of(query);
+        if 127 < count {
+            nack(reply, query.command(), 0x00);
+            return Answer {
+                number: 5,
+                board: self,
+            };
+        }
+        self.send(query, count, reply);
+        let board = self.marked(query);
+        Answer { number: 0, board }
+    }
+
+    fn send(self, query: Query, count: u16, reply: &mut [u8])
+        requires { ⌜ (259 ≤ length (now reply)) × (count ≤ 127) ⌝ }
+        ensures { λ _. ⌜ Filled (now (reply .entry)) (sealed (replyOf self query count)) (now (reply .exit)) ⌝ }
+    {
+        begin(reply, query.command());
+        let from = put_length(reply, query.has_length(), count);
+        self.put_words(query, from, count, reply);
+        seal(reply, from + 2 * (count as usize));
+    }
+
+    fn put_words(self, query: Query, from: usize, count: u16, reply: &mut [u8])
+        requires { ⌜ (from + 2 * count ≤ length (now reply)) × (from ≤ 3) × (count ≤ 127) ⌝ }
+        ensures { λ _. ⌜ Wrote (now (reply .entry)) from (words (word16 (highFirst query)) (wordOf self query) 0 count) (now (reply .exit)) ⌝ }
+    {
+        let high_first = query.high_first();
+        let mut i: u16 = 0;
+        while i < count {
+            let word = self.word(query, i);
+            put_word(reply, from + 2 * (i as usize), high_first, word);
+            i += 1;
+        }
+    }
+
+    // The i-th word of a reply.
+    fn word(self, query: Query, i: u16) -> u16
+        requires { ⌜ i ≤ 127 ⌝ }
+        ensures { λ r. ⌜ r ≡ wordOf self query i ⌝ }
+    {
+        match query {
+            Query::Registers { at, count: _ } => self.value((at as u32) + (i as u32)),
+            Query::Live {
+                command: _,
+                at,
+                count: _,
+            } => self.value((at as u32) + (i as u32)),
+            Query::NewEvents => half(self.new_long(i / 2), i),
+            Query::AllEvents => half(self.kept_long(i / 2), i),
+            Query::Temperatures => self.temperature(i),
+            Query::Cells => self.value(i as u32),
+            Query::SettingsOf { kind, count: _ } => self.pack
+                .settings
+                .of_kind(kind)
+                .register(300 + i),
+        }
+    }
+
+    fn count_of(self, query: Query) -> u16
+        ensures { λ r. ⌜ r ≡ countOf self query ⌝ }
+    {
+        match query {
+            Query::Registers { at: _, count } => count as u16,
+            Query::Live {
+                command: _,
+                at: _,
+                count,
+            } => count as u16,
+            Query::NewEvents => 2 + 2 * (self.hire.events.new_count() as u16),
+            Query::AllEvents => 2 + 2 * (self.hire.events.kept_count() as u16),
+            Query::Temperatures => 3,
+            Query::Cells => self.pack.cells as u16,
+            Query::SettingsOf { kind: _, count } => count as u16,
+        }
+    }
+
+    // A register that a block names; outside the ranges there is none to show.
+    fn value(self, at: u32) -> u16
+        ensures { λ r. ⌜ r ≡ valueAt self at ⌝ }
+    {
+        if 65535 < at {
+            return 0;
+        }
+        match self.register(at as u16) {
+            Shown::Register(value) => value,
+            Shown::Nothing => 0,
+        }
+    }
+
+    fn new_long(self, k: u16) -> u32
+        ensures { λ r. ⌜ r ≡ eventLongs (self .pack .clock .seconds) (newOf (self .hire .events)) k ⌝ }
+    {
+        if k == 0 {
+            return self.pack.clock.seconds;
+        }
+        self.hire.events.new_at(k - 1).four_bytes()
+    }
+
+    fn kept_long(self, k: u16) -> u32
+        ensures { λ r. ⌜ r ≡ eventLongs (self .pack .clock .seconds) (keptOf (self .hire .events)) k ⌝ }
+    {
+        if k == 0 {
+            return self.pack.clock.seconds;
+        }
+        self.hire.events.kept_at(k - 1).four_bytes()
+    }
+
+    fn temperature(self, i: u16) -> u16
+        ensures { λ r. ⌜ r ≡ temperatureAt self i ⌝ }
+    {
+        match i {
+            0 => signed::to_bits(self.hire.sensed.internal),
+            1 => signed::to_bits(self.hire.sensed.external1),
+            _ => signed::to_bits(self.hire.sensed.external2),
+        }
+    }
+
+    // After a query: 0x11 marks what it sent.
+    fn marked(self, query: Query) -> Board
+        ensures { λ r. ⌜ r ≡ withEvents self (cond (marks query) (sentOf (self .hire .events)) (self .hire .events)) ⌝ }
+    {
+        match query {
+            Query::NewEvents => self.with_events(self.hire.events.sent()),
+            _ => self,
+        }
+    }
+
+    fn clear_statistics(self) -> Board
+        ensures { λ r. ⌜ r ≡ withStatistics self (clearedAt (self .pack .clock .seconds)) ⌝ }
+    {
+        let pack = self.pack;
+        let mut hire = self.hire;
+        hire.statistics = Statistics::cleared_at(self.pack.clock.seconds);
+        Board { pack, hire }
+    }
+
+    fn with_events(self, events: Events) -> Board
+        ensures { λ r. ⌜ r ≡ withEvents self events ⌝ }
+    {
+        let pack = self.pack;
+        let mut hire = self.hire;
+        hire.events = events;
+        Board { pack, hire }
+    }
+
+    fn with_settings(self, settings: Settings) -> Board
+        ensures { λ r. ⌜ r ≡ withSettings self settings ⌝ }
+    {
+        let hire = self.hire;
+        let mut pack = self.pack;
+        pack.settings = settings;
+        Board { pack, hire }
+    }
+}
+
+impl Query {
+    fn has_length(self) -> bool
+        ensures { λ r. ⌜ r ≡ hasLength self ⌝ }
+    {
+        match self {
+            Query::Live {
+                command: _,
+                at: _,
+                count: _,
+            } => false,
+            _ => true,
+        }
+    }
+
+    fn high_first(self) -> bool
+        ensures { λ r. ⌜ r ≡ highFirst self ⌝ }
+    {
+        match self {
+            Query::Registers { at: _, count: _ } => true,
+            _ => false,
+        }
+    }
+}
+
+// The registers of a write, high byte first, put into a draft one by one.
+fn drafted(draft: Draft, s: &[u8], from: u8, count: u8) -> Draft
+    ensures { λ r. ⌜ r ≡ draftedOf draft (now (s .entry)) from count ⌝ }
+{
+    let mut all = draft;
+    let mut i: u16 = 0;
+    while i < (count as u16) {
+        let value = high_first_at(s, 7 + 2 * (i as usize));
+        all = all.put(300 + (from as u16) + i, value);
+        i += 1;
+    }
+    all
+}
+
+// The length byte where there is one, and where the words begin.
+fn put_length(reply: &mut [u8], has: bool, count: u16) -> usize
+    requires { ⌜ (3 ≤ length (now reply)) × (count ≤ 127) ⌝ }
+    ensures { λ r. ⌜ (r ≡ cond has 3 2) × Wrote (now (reply .entry)) 2 (lengthByte has count) (now (reply .exit)) ⌝ }
+{
+    if has {
+        put(reply, 2, (2 * count) as u8);
+        return 3;
+    }
+    2
+}
+
+fn half(long: u32, i: u16) -> u16
+    ensures { λ r. ⌜ r ≡ halfOf long i ⌝ }
+{
+    if i % 2 == 0 {
+        (long % 65536) as u16
+    } else {
+        (long / 65536) as u16
+    }
+}

@@ -1,0 +1,117 @@
+-- A history is a list, the newest first; a moment is the history up to it. What is shown at a moment is a function of it.
+-- Assumes nothing.
+use mathlib.Core.Path.{_≡_}
+use mathlib.Core.Bool.{Bool, true, false, cond}
+use mathlib.Core.List.{List, [], _∷_, _++_}
+use Prim.Native.Nat.{ℕ, zero, suc, _+_, _*_, _/_, _<_, min, max}
+use lib.Dec.{ltb}
+use lib.ListN.{length}
+use Rattle.laws.specs.Fold.{bitOf}
+
+module _ {C : Type 0} where
+  -- no call
+  abbrev pub never : C → Bool
+  never c = false
+
+  -- the moments since the last call of a kind, the newest first; a moment is the history up to it
+  abbrev pub since : (C → Bool) → List C → List (List C)
+  since reset [] = []
+  since reset (c ∷ h) = cond (reset c) [] ((c ∷ h) ∷ since reset h)
+
+  -- the moment of the last call of a kind; the start, if there was none
+  abbrev pub from : (C → Bool) → List C → List C
+  from reset [] = []
+  from reset (c ∷ h) = cond (reset c) (c ∷ h) (from reset h)
+
+-- what each of them gives, all in one list
+abbrev pub each : {A B : Type 0} → (A → List B) → List A → List B
+each what [] = []
+each what (x ∷ xs) = what x ++ each what xs
+
+-- the largest; 0 if there is none
+abbrev pub largest : List ℕ → ℕ
+largest [] = 0
+largest (x ∷ xs) = max x (largest xs)
+
+-- the least, the greatest of x and the others
+abbrev pub least : ℕ → List ℕ → ℕ
+least x [] = x
+least x (y ∷ ys) = min x (least y ys)
+
+abbrev pub greatest : ℕ → List ℕ → ℕ
+greatest x [] = x
+greatest x (y ∷ ys) = max x (greatest y ys)
+
+module _ {A : Type 0} where
+  -- of all of them together
+  abbrev pub sum : (A → ℕ) → List A → ℕ
+  sum g [] = 0
+  sum g (x ∷ xs) = g x + sum g xs
+
+  -- how many of them pass
+  abbrev pub count : (A → Bool) → List A → ℕ
+  count p xs = sum (λ a. bitOf (p a)) xs
+
+  -- the first of them, or z
+  abbrev pub headOr : A → List A → A
+  headOr z [] = z
+  headOr z (x ∷ xs) = x
+
+  -- does one of them pass?
+  abbrev pub any : (A → Bool) → List A → Bool
+  any p [] = false
+  any p (x ∷ xs) = cond (p x) true (any p xs)
+
+  -- from the newest back to the first that passes, with it
+  abbrev pub upTo : (A → Bool) → List A → List A
+  upTo p [] = []
+  upTo p (x ∷ xs) = x ∷ cond (p x) [] (upTo p xs)
+
+  -- the newest that passes, if any does
+  abbrev pub newest : (A → Bool) → List A → List A
+  newest p [] = []
+  newest p (x ∷ xs) = cond (p x) (x ∷ []) (newest p xs)
+
+  -- how many are newer than the newest that passes
+  abbrev pub ago : (A → Bool) → List A → ℕ
+  ago p [] = 0
+  ago p (x ∷ xs) = cond (p x) 0 (suc (ago p xs))
+
+  -- the latest n, the oldest of them first; z for each that is missing
+  abbrev pub latest : ℕ → A → List A → List A
+  latest zero z xs = []
+  latest (suc n) z [] = latest n z [] ++ (z ∷ [])
+  latest (suc n) z (x ∷ xs) = latest n z xs ++ (x ∷ [])
+
+  -- latched: it held at a tick, and no later one recovered it
+  abbrev pub stands : (A → Bool) → (A → Bool) → List A → Bool
+  stands holds recovers ts = any holds (upTo recovers ts)
+
+  -- latched with a wait: it held at a tick, and since the latest such tick there were fewer than its wait
+  abbrev pub waits : (A → Bool) → (A → ℕ) → List A → Bool
+  waits holds wait ts = any (λ t. ltb (ago holds ts) (wait t)) (newest holds ts)
+
+  -- the same in the words of the paper: a tick at which it held, such that no later tick recovered it
+  pub record Stands (holds recovers : A → Bool) (ts : List A) : Type 0 where
+    pub later : List A
+    pub tick : A
+    pub earlier : List A
+    pub split : ts ≡ later ++ (tick ∷ earlier)
+    pub held : holds tick ≡ true
+    pub unrecovered : any recovers later ≡ false
+
+  -- the latest tick at which it held, with fewer than its wait of ticks after it
+  pub record Waits (holds : A → Bool) (wait : A → ℕ) (ts : List A) : Type 0 where
+    pub later : List A
+    pub tick : A
+    pub earlier : List A
+    pub split : ts ≡ later ++ (tick ∷ earlier)
+    pub held : holds tick ≡ true
+    pub without : any holds later ≡ false
+    pub few : length later < wait tick
+
+module _ {A S : Type 0} where
+  -- the oldest first
+  abbrev pub pour : (S → A → S) → S → List A → S
+  pour f z [] = z
+  pour f z (x ∷ xs) = f (pour f z xs) x
