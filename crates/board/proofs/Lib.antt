@@ -1,3 +1,16 @@
 pub mod Writing
 pub mod Sending
 pub mod Facts
+pub mod Opened
+pub mod FrameFacts
+pub mod Boundary
+pub mod Answered
+pub mod Tight
+pub mod Ranges
+pub mod Parts
+pub mod Deeds
+pub mod Told
+pub mod Consequences
+pub mod Stilled
+pub mod Forgotten
+pub mod WrongBoards

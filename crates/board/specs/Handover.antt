@@ -3,14 +3,19 @@
 -- tenths, latched conditions, waits. Nothing else may be kept.
 -- Assumes nothing.
 use mathlib.Core.Bool.{cond}
+use Rattle.board.specs.declared.Hire.{Hire}
 use Rattle.board.specs.declared.Board.{Board}
 use Rattle.board.specs.declared.Answer.{Answer}
 use Rattle.board.specs.State.{usable}
 use Rattle.board.specs.Start.{newHire}
 
+-- what went through a handover is a new hire
+abbrev pub handedHire : Board → Hire
+handedHire b = newHire (b .pack .clock .seconds)
+
 -- the pack as it was, and a new hire
 unfoldable pub handedOver : Board → Board
-handedOver b = record { pack = b .pack; hire = newHire (b .pack .clock .seconds) }
+handedOver b = record { pack = b .pack; hire = handedHire b }
 
 -- on a usable board handover never refuses
 unfoldable pub handoverOf : Board → Answer

@@ -6,3 +6,7 @@ pub mod Handover
 pub mod Wire
 pub mod Frames
 pub mod Replies
+pub mod Calls
+pub mod Behaviour
+pub mod Account
+pub mod Demands

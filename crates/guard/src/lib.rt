@@ -40,6 +40,12 @@ pub struct Waits {
     pub roc: u32,
 }
 
+// The numbers of a condition's events.
+pub struct Numbers {
+    pub latching: u8,
+    pub recovery: u8,
+}
+
 pub struct Guard {
     pub latched: Conditions,
     pub waits: Waits,
@@ -123,11 +129,12 @@ impl Conditions {
     {
         let was = self.of(condition);
         let now = after.of(condition);
+        let events = events_of(condition);
         if now & !was {
-            return at_latching(condition);
+            return events.latching;
         }
         if was & !now {
-            return at_recovery(condition);
+            return events.recovery;
         }
         0
     }
@@ -285,31 +292,39 @@ fn is_fed_too_much(settings: Settings, readings: Readings) -> bool
     times(1000, settings.r318) <= readings.current
 }
 
-fn at_latching(condition: Condition) -> u8
-    ensures { λ r. ⌜ r ≡ latchEvent condition ⌝ }
+// The table's events: at latching, at recovery.
+fn events_of(condition: Condition) -> Numbers
+    ensures { λ r. ⌜ (r .latching ≡ latchEvent condition) × (r .recovery ≡ recoveryEvent condition) ⌝ }
 {
     match condition {
-        Condition::UV => 0x02,
-        Condition::OV => 0x03,
-        Condition::OT => 0x04,
-        Condition::DOC => 0x05,
-        Condition::COC => 0x06,
-        Condition::ROC => 0x07,
-        Condition::LT => 0x37,
-    }
-}
-
-fn at_recovery(condition: Condition) -> u8
-    ensures { λ r. ⌜ r ≡ recoveryEvent condition ⌝ }
-{
-    match condition {
-        Condition::UV => 0x7B,
-        Condition::OV => 0x79,
-        Condition::OT => 0x73,
-        Condition::DOC => 0x77,
-        Condition::COC => 0x76,
-        Condition::ROC => 0x78,
-        Condition::LT => 0x74,
+        Condition::UV => Numbers {
+            latching: 0x02,
+            recovery: 0x7B,
+        },
+        Condition::OV => Numbers {
+            latching: 0x03,
+            recovery: 0x79,
+        },
+        Condition::OT => Numbers {
+            latching: 0x04,
+            recovery: 0x73,
+        },
+        Condition::DOC => Numbers {
+            latching: 0x05,
+            recovery: 0x77,
+        },
+        Condition::COC => Numbers {
+            latching: 0x06,
+            recovery: 0x76,
+        },
+        Condition::ROC => Numbers {
+            latching: 0x07,
+            recovery: 0x78,
+        },
+        Condition::LT => Numbers {
+            latching: 0x37,
+            recovery: 0x74,
+        },
     }
 }
 

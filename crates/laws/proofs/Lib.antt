@@ -2,6 +2,5 @@ pub mod Folds
 pub mod Bits
 pub mod Shift
 pub mod Copies
-pub mod Follow
 pub mod Lists
 pub mod Latch

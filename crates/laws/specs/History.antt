@@ -3,7 +3,7 @@
 use mathlib.Core.Path.{_≡_}
 use mathlib.Core.Bool.{Bool, true, false, cond}
 use mathlib.Core.List.{List, [], _∷_, _++_}
-use Prim.Native.Nat.{ℕ, zero, suc, _+_, _*_, _/_, _<_, min, max}
+use Prim.Native.Nat.{ℕ, zero, suc, _+_, _<_, max}
 use lib.Dec.{ltb}
 use lib.ListN.{length}
 use Rattle.laws.specs.Fold.{bitOf}
@@ -32,15 +32,6 @@ each what (x ∷ xs) = what x ++ each what xs
 abbrev pub largest : List ℕ → ℕ
 largest [] = 0
 largest (x ∷ xs) = max x (largest xs)
-
--- the least, the greatest of x and the others
-abbrev pub least : ℕ → List ℕ → ℕ
-least x [] = x
-least x (y ∷ ys) = min x (least y ys)
-
-abbrev pub greatest : ℕ → List ℕ → ℕ
-greatest x [] = x
-greatest x (y ∷ ys) = max x (greatest y ys)
 
 module _ {A : Type 0} where
   -- of all of them together

@@ -3,18 +3,15 @@ use mathlib.Core.Path.{_≡_, sym, _∙_}
 use mathlib.Core.Bool.{Bool, false, not}
 use borrow.Author.Tests.{not-true, not-false}
 use borrow.Author.Needs.{needs}
-use Rattle.board.specs.declared.Hire.{Hire}
 use Rattle.board.specs.declared.Board.{Board}
 use Rattle.board.specs.State.{usable}
-use Rattle.board.specs.Start.{newHire}
-use Rattle.board.specs.Handover.{handedOver, handoverOf}
+use Rattle.board.specs.Handover.{handedHire, handedOver, handoverOf}
 use Rattle.board.proofs.Board.handover.Statement.{statement}
 use Rattle.board.proofs.Board.handover.Tie as tie
 
-handed : (b : Board) (test : Bool) (hire : Hire) → hire ≡ newHire (b .pack .clock .seconds) → test ≡ usable b → not test ≡ false
-    → record { number = 0; board = record { pack = b .pack; hire = hire } } ≡ handoverOf b
+handed : (b : Board) (test : Bool) → test ≡ usable b → not test ≡ false → record { number = 0; board = record { pack = b .pack; hire = handedHire b } } ≡ handoverOf b
 unfolding handoverOf handedOver
-handed b test hire new e u = rw (new, sym e ∙ not-false test u)
+handed b test e u = rw (sym e ∙ not-false test u)
 
 is-usable-requires : tie.Need-is-usable-requires
 is-usable-requires c κs = search needs
@@ -27,7 +24,7 @@ new-requires : tie.Need-new-requires
 new-requires c κs = search needs
 
 returns-2 : tie.Need-returns-2
-returns-2 c = search (handed, needs)
+returns-2 c = rw (c .new .ensures) (search (handed, needs))
 
 pub handover-spec : {M : Type 1} → statement M
 handover-spec = tie.close (tie.spec is-usable-requires returns new-requires returns-2)

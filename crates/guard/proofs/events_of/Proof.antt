@@ -1,8 +1,9 @@
 -- By cases on the condition. Assumes nothing.
+use mathlib.Core.Path.{refl}
+use Rattle.guard.specs.Table.{latchEvent, recoveryEvent}
 use borrow.Author.Needs.{needs}
-use Rattle.guard.specs.Table.{latchEvent}
-use Rattle.guard.proofs.at_latching.Statement.{statement}
-use Rattle.guard.proofs.at_latching.Tie as tie
+use Rattle.guard.proofs.events_of.Statement.{statement}
+use Rattle.guard.proofs.events_of.Tie as tie
 
 enum-told : tie.Need-enum-told
 enum-told c = search needs
@@ -26,35 +27,35 @@ enum-told-7 : tie.Need-enum-told-7
 enum-told-7 c = search needs
 
 returns : tie.Need-returns
-unfolding latchEvent
-returns c = rw (c .enum-told .given .1)
+unfolding latchEvent recoveryEvent
+returns c = rw (c .enum-told .given .1) (refl, refl)
 
 returns-2 : tie.Need-returns-2
-unfolding latchEvent
-returns-2 c = rw (c .enum-told2 .given .1)
+unfolding latchEvent recoveryEvent
+returns-2 c = rw (c .enum-told2 .given .1) (refl, refl)
 
 returns-3 : tie.Need-returns-3
-unfolding latchEvent
-returns-3 c = rw (c .enum-told3 .given .1)
+unfolding latchEvent recoveryEvent
+returns-3 c = rw (c .enum-told3 .given .1) (refl, refl)
 
 returns-4 : tie.Need-returns-4
-unfolding latchEvent
-returns-4 c = rw (c .enum-told4 .given .1)
+unfolding latchEvent recoveryEvent
+returns-4 c = rw (c .enum-told4 .given .1) (refl, refl)
 
 returns-5 : tie.Need-returns-5
-unfolding latchEvent
-returns-5 c = rw (c .enum-told5 .given .1)
+unfolding latchEvent recoveryEvent
+returns-5 c = rw (c .enum-told5 .given .1) (refl, refl)
 
 returns-6 : tie.Need-returns-6
-unfolding latchEvent
-returns-6 c = rw (c .enum-told6 .given .1)
+unfolding latchEvent recoveryEvent
+returns-6 c = rw (c .enum-told6 .given .1) (refl, refl)
 
 returns-7 : tie.Need-returns-7
-unfolding latchEvent
-returns-7 c = rw (c .enum-told7 .given .1)
+unfolding latchEvent recoveryEvent
+returns-7 c = rw (c .enum-told7 .given .1) (refl, refl)
 
-pub at-latching-spec : {M : Type 1} → statement M
-at-latching-spec =
+pub events-of-spec : {M : Type 1} → statement M
+events-of-spec =
     tie.close
     (tie.spec
     enum-told

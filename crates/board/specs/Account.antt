@@ -1,0 +1,371 @@
+-- A second account of the board, from the history of calls and not from a state that is stepped. A history is a list, the newest
+-- first. First each call is judged: a deed is what a call that is done did; a refused call, and one that only reads, is `nothing`.
+-- Then each thing that the board shows is said as a function of the deeds so far.
+-- Assumes nothing.
+use mathlib.Core.Bool.{Bool, true, false, _&&_, _||_, not, cond}
+use mathlib.Core.List.{List, [], _∷_, _++_, map}
+use Prim.Native.Nat.{ℕ, _+_, _*_, _-_, _/_, _%_, min}
+use lib.Dec.{eqb, leb, ltb}
+use lib.IntN.{ℤ, pos}
+use lib.ListN.{length}
+use Rattle.laws.specs.History.{never, since, from, each, largest, sum, count, headOr, newest, ago, latest, stands, waits}
+use Rattle.cells.specs.Cells.{keptOf, extremesOf, sumOf, decisionOf}
+use Rattle.events.specs.declared.Event.{Event}
+use Rattle.events.specs.declared.Events.{Events}
+use Rattle.events.specs.Events.{capacity, eventAt, noEvent}
+use Rattle.guard.specs.declared.Conditions.{Conditions}
+use Rattle.guard.specs.declared.Condition.{Condition}
+use Rattle.guard.specs.declared.Condition.the-variants.{UV, OV, OT, DOC, COC, ROC, LT}
+use Rattle.guard.specs.declared.Waits.{Waits}
+use Rattle.guard.specs.Guard.{cellsHighEnough, cellsLowEnough, sensorsCool, externalsMild, holdsOf}
+use Rattle.guard.specs.Table.{chargeOff, dischargeOff, eventOf, latches}
+use Rattle.live.specs.Live.{liveOf}
+use Rattle.readings.specs.declared.Readings.{Readings}
+use Rattle.readings.specs.Readings.{connected, judgedOf, numberOf}
+use Rattle.settings.specs.declared.Settings.{Settings}
+use Rattle.settings.specs.Settings as settings
+use Rattle.signed.specs.Signed.{above, below, lowerOf, higherOf, fromBits}
+use Rattle.statistics.specs.declared.Temperatures.{Temperatures}
+use Rattle.statistics.specs.declared.Statistics.{Statistics}
+use Rattle.statistics.specs.Statistics.{hundreds, distanceOf}
+use Rattle.board.specs.declared.Clock.{Clock}
+use Rattle.board.specs.declared.Sensed.{Sensed}
+use Rattle.board.specs.declared.Board.{Board}
+use Rattle.board.specs.declared.request.Request.{Request}
+use Rattle.board.specs.declared.request.Request.the-variants as request
+use Rattle.board.specs.Start.{noSensed}
+use Rattle.board.specs.Tick.{chargerEvent, statusFor}
+use Rattle.board.specs.Wire.{be16At}
+use Rattle.board.specs.Frames.{requestOf, marks, draftedOf}
+use Rattle.board.specs.Calls.{Call, tick, frame, handover}
+
+-- ---- deeds
+
+pub data Deed : Type 0 where
+  took : List ℕ → Readings → Deed  -- an accepted tick
+  wrote : List ℕ → ℕ → ℕ → Deed  -- an accepted write: its bytes, its first register past 300, how many
+  cleared : Deed  -- statistics, by 0x02 option 02
+  forgot : Deed  -- events, by 0x02 option 01
+  sent : Deed  -- new events, by 0x11
+  handed : Deed  -- a handover
+  nothing : Deed
+
+-- what each deed has: a tick, a write, and which of the marks of a history it is
+pub record Row : Type 0 where
+  pub ticks : List (List ℕ × Readings)
+  pub writes : List (List ℕ × ℕ × ℕ)
+  pub clears : Bool
+  pub forgets : Bool
+  pub sends : Bool
+  pub hands : Bool
+
+abbrev pub row : Deed → Row
+row (took cells r) = record { ticks = (cells, r) ∷ []; writes = []; clears = false; forgets = false; sends = false; hands = false }
+row (wrote s from n) = record { ticks = []; writes = (s, from, n) ∷ []; clears = false; forgets = false; sends = false; hands = false }
+row cleared = record { ticks = []; writes = []; clears = true; forgets = false; sends = false; hands = false }
+row forgot = record { ticks = []; writes = []; clears = false; forgets = true; sends = false; hands = false }
+row sent = record { ticks = []; writes = []; clears = false; forgets = false; sends = true; hands = false }
+row handed = record { ticks = []; writes = []; clears = true; forgets = true; sends = false; hands = true }
+row nothing = record { ticks = []; writes = []; clears = false; forgets = false; sends = false; hands = false }
+
+abbrev pub clears : Deed → Bool
+clears d = row d .clears
+
+abbrev pub forgets : Deed → Bool
+forgets d = row d .forgets
+
+abbrev pub hands : Deed → Bool
+hands d = row d .hands
+
+-- forgotten or sent
+abbrev pub settles : Deed → Bool
+settles d = row d .forgets || row d .sends
+
+-- the tick, the write of this moment, if it is one
+abbrev pub ticking : List Deed → List (List ℕ × Readings)
+ticking [] = []
+ticking (d ∷ h) = row d .ticks
+
+abbrev pub writing : List Deed → List (List ℕ × ℕ × ℕ)
+writing [] = []
+writing (d ∷ h) = row d .writes
+
+-- ---- settings: each is its last accepted write
+
+-- a write covers a register, and what it gives it
+abbrev pub covers : ℕ → List ℕ × ℕ × ℕ → Bool
+covers register w = leb (300 + w .1) register && ltb register (300 + w .1 + w .2)
+
+abbrev pub given : ℕ → List ℕ × ℕ × ℕ → ℕ
+given register w = be16At (w .0) (7 + 2 * (register - (300 + w .1)))
+
+abbrev pub lastWritten : {A : Type 0} → A → ℕ → (ℕ → A) → List Deed → A
+lastWritten factory register value h = headOr factory (map (λ w. value (given register w)) (newest (covers register) (each writing (since never h))))
+
+unfoldable pub settingsAt : List Deed → Settings
+settingsAt h =
+    record {
+      r301 = lastWritten (settings.factory .r301) 301 (λ v. v) h;
+      r303 = lastWritten (settings.factory .r303) 303 (λ v. v) h;
+      r308 = lastWritten (settings.factory .r308) 308 (λ v. v) h;
+      r315 = lastWritten (settings.factory .r315) 315 (λ v. v) h;
+      r316 = lastWritten (settings.factory .r316) 316 (λ v. v) h;
+      r317 = lastWritten (settings.factory .r317) 317 (λ v. v) h;
+      r318 = lastWritten (settings.factory .r318) 318 (λ v. v) h;
+      r319 = lastWritten (settings.factory .r319) 319 (λ v. v) h;
+      r320 = lastWritten (settings.factory .r320) 320 fromBits h;
+      r332 = lastWritten (settings.factory .r332) 332 (λ v. v) h;
+      r334 = lastWritten (settings.factory .r334) 334 (λ v. v) h;
+      r335 = lastWritten (settings.factory .r335) 335 (λ v. v) h;
+    }
+
+-- ---- time: a second for every tenth accepted tick, stopping at 2^32 - 1
+
+abbrev pub countAt : List Deed → ℕ
+countAt h = length (each ticking (since never h))
+
+unfoldable pub secondsAt : List Deed → ℕ
+secondsAt h = min 4294967295 (countAt h / 10)
+
+unfoldable pub clockAt : List Deed → Clock
+clockAt h = record { seconds = secondsAt h; tenths = min 42949672959 (countAt h) % 10 }
+
+-- ---- conditions: latched and waits from when each held and recovered, with no timer
+
+-- a tick, with the settings in force at it
+pub record Moment : Type 0 where
+  pub settings : Settings
+  pub cells : List ℕ
+  pub readings : Readings
+
+abbrev pub momentOf : Settings → List ℕ × Readings → Moment
+momentOf s t = record { settings = s; cells = t .0; readings = t .1 }
+
+abbrev pub moment : List Deed → List Moment
+moment [] = []
+moment (d ∷ h) = map (momentOf (settingsAt h)) (row d .ticks)
+
+abbrev pub momentsAt : List Deed → List Moment
+momentsAt h = each moment (since never h)
+
+abbrev pub holds : Moment → Conditions
+holds m = holdsOf (m .settings) (m .readings) (extremesOf (m .cells))
+
+abbrev pub waitOf : Moment → ℕ
+waitOf m = 10 * (m .settings .r332)
+
+-- latched: it held at a tick, and no later one recovered it; with a wait: fewer ticks since it last held than the wait of that tick
+unfoldable pub latchedAt : List Deed → Conditions
+latchedAt h =
+    record {
+      uv = stands (λ m. holds m .uv) (λ m. cellsHighEnough (m .settings) (extremesOf (m .cells))) (momentsAt h);
+      ov = stands (λ m. holds m .ov) (λ m. cellsLowEnough (m .settings) (extremesOf (m .cells))) (momentsAt h);
+      ot = stands (λ m. holds m .ot) (λ m. sensorsCool (m .settings) (m .readings)) (momentsAt h);
+      doc = waits (λ m. holds m .doc) waitOf (momentsAt h);
+      coc = waits (λ m. holds m .coc) waitOf (momentsAt h);
+      roc = waits (λ m. holds m .roc) waitOf (momentsAt h);
+      lt = stands (λ m. holds m .lt) (λ m. externalsMild (m .settings) (m .readings)) (momentsAt h);
+    }
+
+-- what is left: the wait of the tick at which it last held, less the ticks since
+abbrev pub leftOf : (Moment → Bool) → List Moment → ℕ
+leftOf held ms = sum (λ m. waitOf m - ago held ms) (newest held ms)
+
+unfoldable pub waitsAt : List Deed → Waits
+waitsAt h =
+    record { doc = leftOf (λ m. holds m .doc) (momentsAt h); coc = leftOf (λ m. holds m .coc) (momentsAt h); roc = leftOf (λ m. holds m .roc) (momentsAt h) }
+
+-- ---- since the handover: the last tick's readings, the pulses of the last ten, the charger
+
+abbrev pub sensedOf : List ℕ × Readings → Sensed
+sensedOf t =
+    record {
+      internal = t .1 .internal;
+      external1 = t .1 .external1;
+      external2 = t .1 .external2;
+      cells = keptOf (t .0);
+      extremes = extremesOf (t .0);
+      live = liveOf (sumOf (t .0)) (t .1 .current);
+    }
+
+unfoldable pub sensedAt : List Deed → Sensed
+sensedAt h = headOr noSensed (map sensedOf (each ticking (since hands h)))
+
+unfoldable pub windowAt : List Deed → List ℕ
+windowAt h = latest 10 0 (map (λ t. t .1 .pulses) (each ticking (since hands h)))
+
+unfoldable pub chargerAt : List Deed → Bool
+chargerAt h = headOr false (map (λ t. t .1 .charger) (each ticking (since hands h)))
+
+-- status, bits and switches as at the last tick since the handover
+abbrev pub statusNow : List Deed → List ℕ
+statusNow [] = []
+statusNow (d ∷ h) = map (λ t. statusFor (latchedAt (d ∷ h)) (t .1)) (row d .ticks)
+
+unfoldable pub statusAt : List Deed → ℕ
+statusAt h = headOr 0x97 (each statusNow (since hands h))
+
+abbrev pub decisionNow : List Deed → List ℕ
+decisionNow [] = []
+decisionNow (d ∷ h) = map (λ t. decisionOf (settingsAt h .r303) (settingsAt h .r308) (t .0)) (row d .ticks)
+
+unfoldable pub decisionAt : List Deed → ℕ
+decisionAt h = headOr 0 (each decisionNow (since hands h))
+
+abbrev pub balancingNow : List Deed → List ℕ
+balancingNow [] = []
+balancingNow (d ∷ h) =
+    map
+    (λ t. cond (eqb (statusAt (d ∷ h)) 0x91 || eqb (statusAt (d ∷ h)) 0x96 || latchedAt (d ∷ h) .ov) (decisionOf (settingsAt h .r303) (settingsAt h .r308) (t .0)) 0)
+    (row d .ticks)
+
+unfoldable pub balancingAt : List Deed → ℕ
+balancingAt h = headOr 0 (each balancingNow (since hands h))
+
+abbrev pub chargeNow : List Deed → List Bool
+chargeNow [] = []
+chargeNow (d ∷ h) = map (λ t. t .1 .charger && not (chargeOff (latchedAt (d ∷ h)))) (row d .ticks)
+
+unfoldable pub chargeAt : List Deed → Bool
+chargeAt h = headOr false (each chargeNow (since hands h))
+
+abbrev pub dischargeNow : List Deed → List Bool
+dischargeNow [] = []
+dischargeNow (d ∷ h) = map (λ t. not (dischargeOff (latchedAt (d ∷ h))) && (eqb (settingsAt h .r334) 0 || t .1 .ignition)) (row d .ticks)
+
+unfoldable pub dischargeAt : List Deed → Bool
+dischargeAt h = headOr false (each dischargeNow (since hands h))
+
+-- ---- events: all that were recorded since they were forgotten, and since they were sent; newest first
+
+abbrev pub someEvent : ℕ → List ℕ
+someEvent n = cond (eqb n 0) [] (n ∷ [])
+
+-- what a tick records: the charger's event is the oldest, then the conditions in the table's order
+abbrev pub numbersOf : Conditions → Conditions → Bool → Bool → List ℕ
+numbersOf before after was now =
+    someEvent (eventOf before after LT) ++ someEvent (eventOf before after ROC) ++ someEvent (eventOf before after COC) ++ someEvent (eventOf before after DOC) ++ someEvent (eventOf before after OT) ++ someEvent (eventOf before after OV) ++ someEvent (eventOf before after UV) ++ someEvent (chargerEvent was now)
+
+abbrev pub recordedNow : List Deed → List Event
+recordedNow [] = []
+recordedNow (d ∷ h) =
+    each (λ t. map (eventAt (secondsAt (d ∷ h))) (numbersOf (latchedAt h) (latchedAt (d ∷ h)) (chargerAt h) (t .1 .charger))) (row d .ticks)
+
+abbrev pub keptSince : List Deed → List Event
+keptSince h = each recordedNow (since forgets h)
+
+abbrev pub newSince : List Deed → List Event
+newSince h = each recordedNow (since settles h)
+
+unfoldable pub eventsAt : List Deed → Events
+eventsAt h =
+    record { list = latest capacity noEvent (keptSince h); kept = min capacity (length (keptSince h)); unsent = min capacity (length (newSince h)) }
+
+-- ---- statistics since the clear
+
+abbrev pub latching : Condition → List Deed → List Bool
+latching c [] = []
+latching c (d ∷ h) = map (λ t. latches (latchedAt h) (latchedAt (d ∷ h)) c) (row d .ticks)
+
+abbrev pub latchings : Condition → List Deed → ℕ
+latchings c h = count (λ yes. yes) (each (latching c) (since clears h))
+
+abbrev pub entering : List Deed → List Bool
+entering [] = []
+entering (d ∷ h) = map (λ t. eqb (statusAt (d ∷ h)) 0x91 && not (eqb (statusAt h) 0x91)) (row d .ticks)
+
+-- the connected externals of a tick, newest first
+abbrev pub externals : List ℕ × Readings → List ℤ
+externals t = cond (connected (t .1 .external2)) (t .1 .external2 ∷ []) [] ++ cond (connected (t .1 .external1)) (t .1 .external1 ∷ []) []
+
+abbrev pub coldestOf : List ℤ → ℤ
+coldestOf [] = pos 0
+coldestOf (x ∷ []) = x
+coldestOf (x ∷ y ∷ ys) = lowerOf x (coldestOf (y ∷ ys))
+
+abbrev pub hottestOf : List ℤ → ℤ
+hottestOf [] = pos 0
+hottestOf (x ∷ []) = x
+hottestOf (x ∷ y ∷ ys) = higherOf (hottestOf (y ∷ ys)) x
+
+abbrev pub seenOf : List ℤ → Bool
+seenOf [] = false
+seenOf (x ∷ xs) = true
+
+abbrev pub temperaturesOf : List ℤ → Temperatures
+temperaturesOf ts = record { coldest = coldestOf ts; hottest = hottestOf ts; seen = seenOf ts }
+
+-- the pulses since the clear
+abbrev pub pulsesAt : List Deed → ℕ
+pulsesAt h = sum (λ t. t .1 .pulses) (each ticking (since clears h))
+
+unfoldable pub statisticsAt : List Deed → Statistics
+statisticsAt h =
+    record {
+      temperatures = temperaturesOf (each externals (each ticking (since clears h)));
+      counts =
+          record {
+            uv = min 65535 (latchings UV h);
+            ov = min 65535 (latchings OV h);
+            doc = min 65535 (latchings DOC h);
+            charge = min 65535 (latchings COC h + latchings ROC h);
+            ot = min 65535 (latchings OT h);
+            charging = min 65535 (count (λ yes. yes) (each entering (since clears h)));
+          };
+      pulses = min 281474976710656 (pulsesAt h);
+      drawn = largest (map (λ t. hundreds (below (t .1 .current))) (each ticking (since clears h)));
+      fed = largest (map (λ t. hundreds (above (t .1 .current))) (each ticking (since clears h)));
+      difference = largest (map (λ t. extremesOf (t .0) .highest - extremesOf (t .0) .lowest) (each ticking (since clears h)));
+      cleared = secondsAt (from clears h);
+    }
+
+-- the distance that is shown: exact since the clear, rounded once
+unfoldable pub distanceAt : ℕ → List Deed → ℕ
+distanceAt perKm h = distanceOf (pulsesAt h) perKm
+
+-- ---- the whole board, from the history
+
+unfoldable pub boardAt : ℕ → ℕ → List Deed → Board
+boardAt cells perKm h =
+    record {
+      pack = record { settings = settingsAt h; guard = record { latched = latchedAt h; waits = waitsAt h }; clock = clockAt h; cells = cells; «per_km» = perKm };
+      hire =
+          record {
+            sensed = sensedAt h;
+            window = windowAt h;
+            charger = chargerAt h;
+            events = eventsAt h;
+            statistics = statisticsAt h;
+            status = statusAt h;
+            decision = decisionAt h;
+            balancing = balancingAt h;
+            charge = chargeAt h;
+            discharge = dischargeAt h;
+          };
+    }
+
+-- ---- which calls are done
+
+abbrev pub usableCount : ℕ → Bool
+usableCount cells = leb 4 cells && leb cells 16
+
+-- what a request that is answered does, where those settings stand
+unfoldable pub requestDeed : Settings → List ℕ → Request → Deed
+requestDeed st s request.Foreign = nothing
+requestDeed st s (request.Damaged command) = nothing
+requestDeed st s (request.Refused command) = nothing
+requestDeed st s request.ClearEvents = forgot
+requestDeed st s request.ClearStatistics = cleared
+requestDeed st s (request.Write from n) = cond (eqb (settings.numberOf (settings.verdictOf (draftedOf (settings.draftOf st) s from n))) 0) (wrote s from n) nothing
+requestDeed st s (request.Read q) = cond (marks q) sent nothing
+
+-- what a call does after a history of deeds, on a board with those start numbers
+unfoldable pub deedOf : ℕ → ℕ → List Deed → Call → Deed
+deedOf cells perKm h (tick given r) = cond (usableCount cells) (cond (eqb (numberOf (judgedOf cells perKm (length given) r)) 0) (took given r) nothing) nothing
+deedOf cells perKm h (frame s room) = cond (usableCount cells) (cond (ltb room 259) nothing (requestDeed (settingsAt h) s (requestOf s))) nothing
+deedOf cells perKm h handover = cond (usableCount cells) handed nothing
+
+-- the deeds of a history of calls
+unfoldable pub deedsOf : ℕ → ℕ → List Call → List Deed
+deedsOf cells perKm [] = []
+deedsOf cells perKm (c ∷ cs) = deedOf cells perKm (deedsOf cells perKm cs) c ∷ deedsOf cells perKm cs

@@ -1,0 +1,41 @@
+-- The board as it is called: calls, what each shows to the caller, and what a list of calls leads to; by the definitions that the
+-- promises cite.
+-- Assumes nothing.
+use mathlib.Core.Bool.{Bool}
+use mathlib.Core.List.{List, []}
+use Prim.Native.Nat.{ℕ}
+use Rattle.readings.specs.declared.Readings.{Readings}
+use Rattle.board.specs.declared.Board.{Board}
+use Rattle.board.specs.declared.Answer.{Answer}
+use Rattle.board.specs.Tick.{tickOf}
+use Rattle.board.specs.Frames.{frameNumber, frameBoard, frameReply}
+use Rattle.board.specs.Handover.{handoverOf}
+
+-- three kinds of call after a start: a tick (cells and the other readings), a frame (its bytes, and the length of the reply buffer
+-- that is lent), and a handover
+pub data Call : Type 0 where
+  tick : List ℕ → Readings → Call
+  frame : List ℕ → ℕ → Call
+  handover : Call
+
+-- what the caller sees: the number, every byte of a lent reply buffer, both switches and both sets of bits after the call
+pub record Seen : Type 0 where
+  pub number : ℕ
+  pub buffer : List ℕ
+  pub charge : Bool
+  pub discharge : Bool
+  pub decision : ℕ
+  pub balancing : ℕ
+
+abbrev pub seen : Answer → List ℕ → Seen
+seen a buffer =
+    record { number = a .number; buffer = buffer; charge = a .board .hire .charge; discharge = a .board .hire .discharge; decision = a .board .hire .decision; balancing = a .board .hire .balancing }
+
+abbrev pub framed : Board → List ℕ → ℕ → Answer
+framed b s room = record { number = frameNumber b s room; board = frameBoard b s room }
+
+-- one call
+unfoldable pub step : Board → Call → Board × Seen
+step b (tick cells r) = (tickOf b cells r .board, seen (tickOf b cells r) [])
+step b (frame s room) = (frameBoard b s room, seen (framed b s room) (frameReply b s room))
+step b handover = (handoverOf b .board, seen (handoverOf b) [])
