@@ -1,4 +1,5 @@
--- The three demands, of any behaviour.
+-- The three demands, of any behaviour. None has a hypothesis but what demand 3 says of the two boards; how those were tried stands at
+-- each.
 -- Assumes nothing.
 use mathlib.Core.Bool.{Bool, true, _&&_, _||_, cond}
 use mathlib.Core.Logic.{_⊎_}
@@ -70,9 +71,12 @@ abbrev pub allQuiet : List Moment → Bool
 allQuiet [] = true
 allQuiet (m ∷ ms) = quiet (m .settings) (m .readings) (extremesOf (m .cells)) && allQuiet ms
 
--- the last 300 accepted ticks are quiet, and there are so many
+-- the last 300 accepted ticks are quiet, and there are so many. Other calls and refused ticks may come between, since only
+-- accepted ticks are moments. Tried: 300 quiet ticks meet it (proofs/Stilled, quieted); with 299 the demand is refused
 abbrev pub Quieted : List Deed → Type 0
 Quieted h = (300 ≤ countAt h) × (allQuiet (take 300 (momentsAt h)) ≡ true)
+
+-- (Tried: without equal counts, or without equal waits below, the demand is refused; a latched condition is no hindrance to the second.)
 
 -- first alternative: equal settings, equally many accepted ticks, the last 300 accepted of each quiet
 pub record BothQuiet (h k : List Deed) : Type 0 where

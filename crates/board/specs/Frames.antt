@@ -15,6 +15,7 @@ use Rattle.settings.specs.declared.Kind.the-variants.{Minimum, Maximum, Default
 use Rattle.settings.specs.declared.Draft.{Draft}
 use Rattle.settings.specs.Settings as settings
 use Rattle.signed.specs.Signed as signed
+use Rattle.statistics.specs.declared.Statistics.{Statistics}
 use Rattle.statistics.specs.Statistics.{clearedAt}
 use Rattle.board.specs.declared.Board.{Board}
 use Rattle.board.specs.declared.Answer.{Answer}
@@ -192,13 +193,17 @@ requestNumber b s request.ClearStatistics = 0
 requestNumber b s (request.Write from n) = settings.numberOf (settings.verdictOf (writtenTo b s from n))
 requestNumber b s (request.Read q) = cond (tooLong b q) 5 0
 
+-- statistics after a clear: everything at zero, but the lifetime at the clear
+abbrev pub clearedStatistics : Board → Statistics
+clearedStatistics b = clearedAt (b .pack .clock .seconds)
+
 -- the board after it: 0x02's clears, an accepted write and 0x11's mark are the only changes
 unfoldable pub requestBoard : Board → List ℕ → Request → Board
 requestBoard b s request.Foreign = b
 requestBoard b s (request.Damaged command) = b
 requestBoard b s (request.Refused command) = b
 requestBoard b s request.ClearEvents = withEvents b noEvents
-requestBoard b s request.ClearStatistics = withStatistics b (clearedAt (b .pack .clock .seconds))
+requestBoard b s request.ClearStatistics = withStatistics b (clearedStatistics b)
 requestBoard b s (request.Write from n) = withSettings b (settings.writtenOf (writtenTo b s from n) .settings)
 requestBoard b s (request.Read q) = withEvents b (cond (marks q && not (tooLong b q)) (sentOf (b .hire .events)) (b .hire .events))
 

@@ -6,10 +6,9 @@ ghost use lib.ListN.{length};
 ghost use Rattle.board.specs.declared.request.Request.the-variants as request;
 ghost use Rattle.board.specs.State.{withEvents, withStatistics, withSettings};
 ghost use Rattle.board.specs.Wire.{word16, words, sealed, Wrote, Filled};
-ghost use Rattle.board.specs.Frames.{valueAt, eventLongs, draftedOf, marks, Frames};
+ghost use Rattle.board.specs.Frames.{valueAt, eventLongs, draftedOf, marks, clearedStatistics, Frames};
 ghost use Rattle.board.specs.Replies.{hasLength, highFirst, countOf, halfOf, temperatureAt, wordOf, lengthByte, replyOf, Answers};
 ghost use Rattle.events.specs.Events.{keptOf, newOf, sentOf};
-ghost use Rattle.statistics.specs.Statistics.{clearedAt};
 use crate::Answer;
 use crate::Board;
 use crate::registers::Shown;
@@ -247,7 +246,7 @@ impl Board {
     }
 
     fn clear_statistics(self) -> Board
-        ensures { λ r. ⌜ r ≡ withStatistics self (clearedAt (self .pack .clock .seconds)) ⌝ }
+        ensures { λ r. ⌜ r ≡ withStatistics self (clearedStatistics self) ⌝ }
     {
         let pack = self.pack;
         let mut hire = self.hire;
