@@ -14,3 +14,4 @@ pub mod Consequences
 pub mod Stilled
 pub mod Forgotten
 pub mod WrongBoards
+pub mod Bounds
