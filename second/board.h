@@ -1,0 +1,114 @@
+/* The board of document 01, written a second time from the papers alone: its state, and the calls made on it. */
+#ifndef BOARD_H
+#define BOARD_H
+
+#include <stdbool.h>
+#include <stddef.h>
+#include <stdint.h>
+
+/* "Numbers the caller gets". Number 5 (a reply payload above 254 bytes) has no place here: a register block lies
+   in one range, so a payload is 200 bytes at most (100 registers), and 48 events make 196. */
+enum number {
+    DONE = 0,
+    ROOM_TOO_SMALL = 1,
+    NOT_A_FRAME = 2,
+    WRONG_CRC = 3,
+    AGAINST_A_RULE = 4,
+    WRONG_CELL_SLICE = 11,
+    WRONG_CURRENT = 12,
+    NO_INTERNAL_TEMPERATURE = 13,
+    WRONG_PULSES = 14,
+    NO_BOARD = 21
+};
+
+enum {
+    LEAST_CELLS = 4,
+    MOST_CELLS = 16,
+    LEAST_ROOM = 259,
+    NOT_CONNECTED = -32768,
+    EVENTS_KEPT = 48,
+    WINDOW = 10             /* ticks that the speed looks back on */
+};
+
+/* "Status". */
+enum { CHARGING = 0x91, DISCHARGING = 0x93, REGENERATION = 0x96, IDLE = 0x97, FAULT = 0x9B };
+
+/* The conditions, in the table's order. A set of them has one bit for each. */
+enum condition { UV, OV, OT, DOC, COC, ROC, LT };
+
+/* Registers 300 to 399, as they stand on the wire. */
+struct settings {
+    uint16_t of[100];
+};
+
+extern const struct settings least_settings, greatest_settings, factory_settings;
+
+/* "Readings", without the cells: these are lent as a slice. */
+struct readings {
+    int32_t current;        /* mA, charging positive */
+    int16_t internal;       /* 0.1 degrees C */
+    int16_t external[2];    /* 0.1 degrees C, or NOT_CONNECTED */
+    uint16_t pulses;
+    bool charger, ignition;
+};
+
+/* "Statistics since the last clear". */
+struct statistics {
+    uint64_t hundred_pulses;                        /* 100 times the pulses, exact */
+    int32_t largest_negative, largest_positive;     /* mA, both as positive numbers */
+    uint16_t largest_difference;                    /* 0.1 mV */
+    uint16_t count[7];                              /* registers 105 to 111 */
+    bool external_seen;
+    int16_t coldest, hottest;                       /* external, 0.1 degrees C */
+    uint32_t cleared_at;
+};
+
+struct event {
+    uint32_t time;
+    uint8_t number;
+};
+
+struct board {
+    /* Kept at a handover. */
+    uint8_t cells;                      /* 0: no board */
+    uint16_t pulses_per_km;             /* 0: no wheel sensor */
+    struct settings settings;
+    uint32_t lifetime;                  /* seconds */
+    uint8_t tenths;                     /* accepted ticks since the last whole second */
+    uint8_t latched;                    /* the set of latched conditions */
+    uint16_t wait[LT];                  /* ticks left of the waits of DOC, COC and ROC; 0: none */
+    /* Not kept. */
+    struct readings readings;
+    uint16_t cell[MOST_CELLS];          /* 0.1 mV */
+    uint16_t lowest, highest;           /* cell, 0.1 mV */
+    float volts, amps;
+    uint16_t window[WINDOW];            /* pulses of the last ten ticks, the latest first */
+    uint8_t status;
+    uint16_t need, real;                /* the balancing bits, registers 51 and 52 */
+    bool charge_switch, discharge_switch;
+    struct statistics statistics;
+    struct event event[EVENTS_KEPT];    /* the event noted as number n lies at n modulo 48 */
+    uint64_t events_noted, events_sent; /* since their clear; sent: noted before the latest 0x11 */
+};
+
+/* 0: none. 1 to 6: a slip of the old board, put in on purpose; in the order of "Slips seen on our old board". */
+extern int board_fault;
+
+enum number board_start(struct board *board, uint8_t cells, uint16_t pulses_per_km);
+enum number board_tick(struct board *board, const struct readings *readings, const uint16_t *cell, size_t cells);
+enum number board_frame(struct board *board, const uint8_t *frame, size_t length, uint8_t *reply, size_t room);
+enum number board_handover(struct board *board);
+
+void clear_events(struct board *board);
+void clear_statistics(struct board *board);
+uint16_t board_register(const struct board *board, unsigned number);
+uint16_t crc_of(const uint8_t *bytes, size_t length);
+
+/* 320 is signed 16-bit; every other setting is read as it stands. */
+static inline int read_setting(const struct settings *settings, unsigned number)
+{
+    const int value = settings->of[number - 300];
+    return number == 320 && value > 32767 ? value - 65536 : value;
+}
+
+#endif

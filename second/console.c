@@ -1,0 +1,226 @@
+/* Turns a line into a call, and what the call gives back into a line. */
+#include "console.h"
+
+#include <string.h>
+
+/* ---- Words of a line ---- */
+
+struct words {
+    const char *at, *end;
+};
+
+/* Reading: only the space parts words, and spaces may also stand before the first and after the last word. */
+static inline bool another_word(struct words *words)
+{
+    while (words->at < words->end && *words->at == ' ')
+        words->at++;
+    return words->at < words->end;
+}
+
+static inline bool at_word_end(const char *at, const char *end)
+{
+    return at == end || *at == ' ';
+}
+
+/* Reading: the words of calls are lower case only. */
+static bool take_word(struct words *words, const char *word)
+{
+    const size_t length = strlen(word);
+    if ((size_t)(words->end - words->at) < length || memcmp(words->at, word, length) != 0)
+        return false;
+    if (!at_word_end(words->at + length, words->end))
+        return false;
+    words->at += length;
+    return true;
+}
+
+/* Reading: a number is one or more decimal digits, after one "-" only where it may be negative; no "+".
+   Reading: leading zeros are allowed, as many as the line holds; "-0" is 0 where "-" is allowed at all. */
+static inline bool take_number(struct words *words, int64_t least, int64_t greatest, int64_t *number)
+{
+    if (!another_word(words))
+        return false;
+    const char *at = words->at;
+    const bool negative = least < 0 && *at == '-';
+    at += negative;
+    const char *digits = at;
+    int64_t value = 0;
+    for (; at < words->end && *at >= '0' && *at <= '9'; at++)
+        value = value < 1000000000000 ? 10 * value + (*at - '0') : value;    /* so high a value fits nowhere */
+    if (at == digits || !at_word_end(at, words->end))
+        return false;
+    words->at = at;
+    *number = negative ? -value : value;
+    return *number >= least && *number <= greatest;
+}
+
+static inline int hex_digit(char digit)
+{
+    if (digit >= '0' && digit <= '9')
+        return digit - '0';
+    const char lower = (char)(digit | 0x20);
+    return lower >= 'a' && lower <= 'f' ? lower - 'a' + 10 : -1;
+}
+
+/* Reading: a byte is exactly two hex digits, of either case each. Takes all bytes to the end of the line. */
+static bool take_bytes(struct words *words, uint8_t bytes[MOST_BYTES], size_t *length)
+{
+    *length = 0;
+    while (another_word(words)) {
+        if (*length == MOST_BYTES || words->end - words->at < 2 || !at_word_end(words->at + 2, words->end))
+            return false;
+        const int high = hex_digit(words->at[0]), low = hex_digit(words->at[1]);
+        if (high < 0 || low < 0)
+            return false;
+        bytes[(*length)++] = (uint8_t)(high << 4 | low);
+        words->at += 2;
+    }
+    return true;
+}
+
+/* ---- Answers ---- */
+
+static inline char *say_byte(char *at, unsigned byte)
+{
+    *at++ = "0123456789ABCDEF"[byte >> 4];
+    *at++ = "0123456789ABCDEF"[byte & 15];
+    return at;
+}
+
+static char *say_decimal(char *at, unsigned number)
+{
+    if (number >= 10)
+        at = say_decimal(at, number / 10);
+    *at++ = (char)('0' + number % 10);
+    return at;
+}
+
+/* "NUMBER SWITCHES NEED REAL". A board that is none has all zeros, so it says "-- 0000 0000". */
+static char *say_state(char *at, enum number number, const struct board *board)
+{
+    at = say_decimal(at, number);
+    *at++ = ' ';
+    *at++ = board->charge_switch ? 'c' : '-';
+    *at++ = board->discharge_switch ? 'd' : '-';
+    *at++ = ' ';
+    at = say_byte(at, board->need >> 8);
+    at = say_byte(at, board->need & 0xFF);
+    *at++ = ' ';
+    at = say_byte(at, board->real >> 8);
+    return say_byte(at, board->real & 0xFF);
+}
+
+/* " BYTE.. +Z": the whole buffer, its trailing zero bytes as their count. */
+static char *say_buffer(char *at, const uint8_t *buffer, size_t room)
+{
+    size_t said = room;
+    while (said > 0 && buffer[said - 1] == 0)
+        said--;
+    for (size_t byte = 0; byte < said; byte++) {
+        *at++ = ' ';
+        at = say_byte(at, buffer[byte]);
+    }
+    *at++ = ' ';
+    *at++ = '+';
+    return say_decimal(at, (unsigned)(room - said));
+}
+
+/* ---- Calls: each gives back the end of its answer, or NULL for "?" with nothing changed ---- */
+
+static char *call_start(struct board *board, struct words *words, char *answer)
+{
+    int64_t cells, pulses_per_km;
+    if (!take_number(words, 0, 255, &cells) || !take_number(words, 0, 65535, &pulses_per_km) || another_word(words))
+        return NULL;
+    const enum number number = board_start(board, (uint8_t)cells, (uint16_t)pulses_per_km);
+    return say_state(answer, number, board);
+}
+
+/* Reading: CHARGER and IGNITION are numbers 0 to 1, so 00 and 01 are taken too. */
+static char *call_tick(struct board *board, struct words *words, char *answer)
+{
+    int64_t current, internal, external1, external2, pulses, charger, ignition, value;
+    if (!take_number(words, INT32_MIN, INT32_MAX, &current) || !take_number(words, -32768, 32767, &internal)
+        || !take_number(words, -32768, 32767, &external1) || !take_number(words, -32768, 32767, &external2)
+        || !take_number(words, 0, 65535, &pulses) || !take_number(words, 0, 1, &charger)
+        || !take_number(words, 0, 1, &ignition))
+        return NULL;
+    uint16_t cell[MOST_CELLS_LENT];
+    size_t cells = 0;
+    while (another_word(words)) {
+        if (cells == MOST_CELLS_LENT || !take_number(words, 0, 65535, &value))
+            return NULL;
+        cell[cells++] = (uint16_t)value;
+    }
+    const struct readings readings = {
+        .current = (int32_t)current, .internal = (int16_t)internal,
+        .external = {(int16_t)external1, (int16_t)external2}, .pulses = (uint16_t)pulses,
+        .charger = charger == 1, .ignition = ignition == 1
+    };
+    const enum number number = board_tick(board, &readings, cell, cells);
+    return say_state(answer, number, board);
+}
+
+static char *call_frame(struct board *board, struct words *words, char *answer)
+{
+    int64_t room;
+    uint8_t frame[MOST_BYTES], reply[MOST_ROOM];
+    size_t length;
+    if (!take_number(words, 0, MOST_ROOM, &room) || !take_bytes(words, frame, &length))
+        return NULL;
+    memset(reply, 0x5A, (size_t)room);
+    const enum number number = board_frame(board, frame, length, reply, (size_t)room);
+    return say_buffer(say_state(answer, number, board), reply, (size_t)room);
+}
+
+static char *call_handover(struct board *board, struct words *words, char *answer)
+{
+    if (another_word(words))
+        return NULL;
+    const enum number number = board_handover(board);
+    return say_state(answer, number, board);
+}
+
+static char *call_crc(struct words *words, char *answer)
+{
+    uint8_t bytes[MOST_BYTES];
+    size_t length;
+    if (!take_bytes(words, bytes, &length))
+        return NULL;
+    const uint16_t crc = crc_of(bytes, length);
+    answer = say_byte(answer, crc & 0xFF);
+    *answer++ = ' ';
+    return say_byte(answer, crc >> 8);
+}
+
+static char *make_call(struct board *board, struct words *words, char *answer)
+{
+    if (take_word(words, "tick"))
+        return call_tick(board, words, answer);
+    if (take_word(words, "frame"))
+        return call_frame(board, words, answer);
+    if (take_word(words, "start"))
+        return call_start(board, words, answer);
+    if (take_word(words, "handover"))
+        return call_handover(board, words, answer);
+    if (take_word(words, "crc"))
+        return call_crc(words, answer);
+    return NULL;
+}
+
+/* Reading: only "#" as the very first byte makes a comment, " #" is a word that is no call.
+   Reading: a comment or a line of spaces alone gives no answer however long it is; any other line over 4,000 bytes
+   (its LF or CR LF not counted) is "?". */
+size_t answer_line(struct board *board, const char *line, size_t length, char answer[ANSWER_ROOM])
+{
+    struct words words = {line, line + length};
+    if (!another_word(&words) || line[0] == '#')
+        return 0;
+    char *end = length > LONGEST_LINE ? NULL : make_call(board, &words, answer);
+    if (end == NULL) {
+        end = answer;
+        *end++ = '?';
+    }
+    *end++ = '\n';
+    return (size_t)(end - answer);
+}

@@ -1,0 +1,283 @@
+/* Frames: the CRC, the replies and the commands of document 01. */
+#include "board.h"
+
+#include <string.h>
+
+/* ---- CRC ---- */
+
+/* Document 000, chapter 1.2: for each byte value, the eight shifts by one with 0xA001 done at once. */
+static const uint16_t crc_table[256] = {
+    0x0000, 0xC0C1, 0xC181, 0x0140, 0xC301, 0x03C0, 0x0280, 0xC241, 0xC601, 0x06C0, 0x0780, 0xC741,
+    0x0500, 0xC5C1, 0xC481, 0x0440, 0xCC01, 0x0CC0, 0x0D80, 0xCD41, 0x0F00, 0xCFC1, 0xCE81, 0x0E40,
+    0x0A00, 0xCAC1, 0xCB81, 0x0B40, 0xC901, 0x09C0, 0x0880, 0xC841, 0xD801, 0x18C0, 0x1980, 0xD941,
+    0x1B00, 0xDBC1, 0xDA81, 0x1A40, 0x1E00, 0xDEC1, 0xDF81, 0x1F40, 0xDD01, 0x1DC0, 0x1C80, 0xDC41,
+    0x1400, 0xD4C1, 0xD581, 0x1540, 0xD701, 0x17C0, 0x1680, 0xD641, 0xD201, 0x12C0, 0x1380, 0xD341,
+    0x1100, 0xD1C1, 0xD081, 0x1040, 0xF001, 0x30C0, 0x3180, 0xF141, 0x3300, 0xF3C1, 0xF281, 0x3240,
+    0x3600, 0xF6C1, 0xF781, 0x3740, 0xF501, 0x35C0, 0x3480, 0xF441, 0x3C00, 0xFCC1, 0xFD81, 0x3D40,
+    0xFF01, 0x3FC0, 0x3E80, 0xFE41, 0xFA01, 0x3AC0, 0x3B80, 0xFB41, 0x3900, 0xF9C1, 0xF881, 0x3840,
+    0x2800, 0xE8C1, 0xE981, 0x2940, 0xEB01, 0x2BC0, 0x2A80, 0xEA41, 0xEE01, 0x2EC0, 0x2F80, 0xEF41,
+    0x2D00, 0xEDC1, 0xEC81, 0x2C40, 0xE401, 0x24C0, 0x2580, 0xE541, 0x2700, 0xE7C1, 0xE681, 0x2640,
+    0x2200, 0xE2C1, 0xE381, 0x2340, 0xE101, 0x21C0, 0x2080, 0xE041, 0xA001, 0x60C0, 0x6180, 0xA141,
+    0x6300, 0xA3C1, 0xA281, 0x6240, 0x6600, 0xA6C1, 0xA781, 0x6740, 0xA501, 0x65C0, 0x6480, 0xA441,
+    0x6C00, 0xACC1, 0xAD81, 0x6D40, 0xAF01, 0x6FC0, 0x6E80, 0xAE41, 0xAA01, 0x6AC0, 0x6B80, 0xAB41,
+    0x6900, 0xA9C1, 0xA881, 0x6840, 0x7800, 0xB8C1, 0xB981, 0x7940, 0xBB01, 0x7BC0, 0x7A80, 0xBA41,
+    0xBE01, 0x7EC0, 0x7F80, 0xBF41, 0x7D00, 0xBDC1, 0xBC81, 0x7C40, 0xB401, 0x74C0, 0x7580, 0xB541,
+    0x7700, 0xB7C1, 0xB681, 0x7640, 0x7200, 0xB2C1, 0xB381, 0x7340, 0xB101, 0x71C0, 0x7080, 0xB041,
+    0x5000, 0x90C1, 0x9181, 0x5140, 0x9301, 0x53C0, 0x5280, 0x9241, 0x9601, 0x56C0, 0x5780, 0x9741,
+    0x5500, 0x95C1, 0x9481, 0x5440, 0x9C01, 0x5CC0, 0x5D80, 0x9D41, 0x5F00, 0x9FC1, 0x9E81, 0x5E40,
+    0x5A00, 0x9AC1, 0x9B81, 0x5B40, 0x9901, 0x59C0, 0x5880, 0x9841, 0x8801, 0x48C0, 0x4980, 0x8941,
+    0x4B00, 0x8BC1, 0x8A81, 0x4A40, 0x4E00, 0x8EC1, 0x8F81, 0x4F40, 0x8D01, 0x4DC0, 0x4C80, 0x8C41,
+    0x4400, 0x84C1, 0x8581, 0x4540, 0x8701, 0x47C0, 0x4680, 0x8641, 0x8201, 0x42C0, 0x4380, 0x8341,
+    0x4100, 0x81C1, 0x8081, 0x4040
+};
+
+/* "start 0xFFFF; for each byte, exclusive-or it in, then eight times shift right by one" */
+uint16_t crc_of(const uint8_t *bytes, size_t length)
+{
+    uint16_t crc = 0xFFFF;
+    for (size_t at = 0; at < length; at++)
+        crc = (uint16_t)(crc >> 8 ^ crc_table[(crc ^ bytes[at]) & 0xFF]);
+    return crc;
+}
+
+/* ---- Replies ---- */
+
+/* A reply as it is written into the lent buffer, which is all zeros before. */
+struct reply {
+    uint8_t *bytes;
+    size_t length;
+};
+
+static void put(struct reply *reply, uint8_t byte)
+{
+    reply->bytes[reply->length++] = byte;
+}
+
+/* "Except in 0x03 and 0x10, multi-byte data goes low byte first." */
+static void put_low_first(struct reply *reply, uint32_t value, unsigned bytes)
+{
+    for (unsigned at = 0; at < bytes; at++)
+        put(reply, (uint8_t)(value >> 8 * at));
+}
+
+static void put_high_first(struct reply *reply, uint16_t value)
+{
+    put(reply, (uint8_t)(value >> 8));
+    put(reply, (uint8_t)value);
+}
+
+/* "Sent low byte first." */
+static void put_crc(struct reply *reply)
+{
+    put_low_first(reply, crc_of(reply->bytes, reply->length), 2);
+}
+
+/* "NACK: AA 00 CMD ERROR CRC." */
+static void put_nack(uint8_t *buffer, uint8_t command, uint8_t error)
+{
+    struct reply reply = {buffer, 0};
+    put(&reply, 0xAA);
+    put(&reply, 0x00);
+    put(&reply, command);
+    put(&reply, error);
+    put_crc(&reply);
+}
+
+static void put_head(struct reply *reply, uint8_t command)
+{
+    put(reply, 0xAA);
+    put(reply, command);
+}
+
+static uint32_t pair(const struct board *board, unsigned number)
+{
+    return board_register(board, number) | (uint32_t)board_register(board, number + 1) << 16;
+}
+
+/* ---- Commands: each is done, or refused with nothing changed ---- */
+
+/* "0x02, 5 bytes: option 01 clears events, 02 clears statistics; others are number 4. Reply ACK." */
+static bool clear(struct board *board, uint8_t option, struct reply *reply)
+{
+    if (option == 0x01)
+        clear_events(board);
+    else if (option == 0x02)
+        clear_statistics(board);
+    else
+        return false;
+    put(reply, 0xAA);
+    put(reply, 0x01);
+    put(reply, 0x02);
+    return true;
+}
+
+/* "A register block must lie in one range: 0 to 55, 100 to 117, or 300 to 399." */
+static bool in_one_range(unsigned first, unsigned registers)
+{
+    const unsigned last = first + registers - 1;
+    return last <= 55 || (first >= 100 && last <= 117) || (first >= 300 && last <= 399);
+}
+
+/* "0x03, 8 bytes: address high, low, 00, RL. RL 1 to 127. Reply AA 03 PL, then each register high byte first" */
+static bool read_block(const struct board *board, const uint8_t *frame, struct reply *reply)
+{
+    const unsigned address = (unsigned)frame[2] << 8 | frame[3];
+    const unsigned RL = frame[5];
+    if (frame[4] != 0x00 || RL < 1 || RL > 127 || !in_one_range(address, RL))
+        return false;
+    put_head(reply, 0x03);
+    put(reply, (uint8_t)(2 * RL));
+    for (unsigned at = 0; at < RL; at++)
+        put_high_first(reply, board_register(board, address + at));
+    return true;
+}
+
+static bool in_its_range(const struct settings *settings, unsigned number)
+{
+    const int value = read_setting(settings, number);
+    return value >= read_setting(&least_settings, number) && value <= read_setting(&greatest_settings, number);
+}
+
+/* "A write is taken whole or not at all, and only if afterwards 316 <= 301 < 315" */
+static bool write_settings(struct board *board, unsigned first, unsigned RL, const uint8_t *data)
+{
+    struct settings after = board->settings;
+    for (unsigned at = 0; at < RL; at++) {
+        const unsigned number = first + at;
+        after.of[number - 300] = (uint16_t)(data[2 * at] << 8 | data[2 * at + 1]);
+        if (!in_its_range(&after, number))
+            return false;
+        if (board_fault == 3)
+            board->settings.of[number - 300] = after.of[number - 300];
+    }
+    if (read_setting(&after, 316) > read_setting(&after, 301) || read_setting(&after, 301) >= read_setting(&after, 315))
+        return false;
+    board->settings = after;
+    return true;
+}
+
+/* "0x10, 9+2*RL bytes: address high, low, 00, RL, PL, registers high byte first. RL 1 to 100, PL = 2*RL, addresses
+   all in 300 to 399. Reply AA 10 address high, low, 00, RL, CRC." */
+static bool write_block(struct board *board, const uint8_t *frame, struct reply *reply)
+{
+    const unsigned address = (unsigned)frame[2] << 8 | frame[3];
+    const unsigned RL = frame[5], PL = frame[6];
+    if (frame[4] != 0x00 || RL < 1 || RL > 100 || PL != 2 * RL)
+        return false;
+    if (address < 300 || address + RL - 1 > 399 || !write_settings(board, address, RL, frame + 7))
+        return false;
+    put_head(reply, 0x10);
+    put_high_first(reply, (uint16_t)address);
+    put_high_first(reply, (uint16_t)RL);
+    return true;
+}
+
+/* "0x11 sends those not yet sent by an earlier 0x11; 0x12 sends all kept and marks nothing." Oldest first. */
+static bool send_events(struct board *board, uint8_t command, struct reply *reply)
+{
+    uint64_t first = board->events_noted > EVENTS_KEPT ? board->events_noted - EVENTS_KEPT : 0;
+    if (command == 0x11 && first < board->events_sent)
+        first = board->events_sent;
+    put_head(reply, command);
+    put(reply, (uint8_t)(4 + 4 * (board->events_noted - first)));
+    put_low_first(reply, board->lifetime, 4);
+    for (uint64_t at = first; at < board->events_noted; at++) {
+        const struct event event = board->event[at % EVENTS_KEPT];
+        put_low_first(reply, event.time, 3);
+        put(reply, event.number);
+    }
+    if (command == 0x11)
+        board->events_sent = board->events_noted;
+    return true;
+}
+
+/* "reply AA CMD DATA CRC, no PL" */
+static bool send_data(uint8_t command, uint32_t data, unsigned bytes, struct reply *reply)
+{
+    put_head(reply, command);
+    put_low_first(reply, data, bytes);
+    return true;
+}
+
+/* "0x1B: PL 6, internal, external 1, external 2." */
+static bool send_temperatures(const struct board *board, struct reply *reply)
+{
+    put_head(reply, 0x1B);
+    put(reply, 6);
+    put_low_first(reply, board_register(board, 48), 2);
+    put_low_first(reply, board_register(board, 42), 2);
+    put_low_first(reply, board_register(board, 43), 2);
+    return true;
+}
+
+/* "0x1C: PL = 2*cells, the cells in 0.1 mV." */
+static bool send_cells(const struct board *board, struct reply *reply)
+{
+    put_head(reply, 0x1C);
+    put(reply, (uint8_t)(2 * board->cells));
+    for (unsigned at = 0; at < board->cells; at++)
+        put_low_first(reply, board->cell[at], 2);
+    return true;
+}
+
+/* "0x1D, 7 bytes: option 1 to 4 (minimum, maximum, default, current), 00, RL 1 to 100; reply PL = 2*RL, registers
+   from 300 on." */
+static bool send_settings(const struct board *board, const uint8_t *frame, struct reply *reply)
+{
+    const struct settings *of_option[] = {&least_settings, &greatest_settings, &factory_settings, &board->settings};
+    const unsigned option = frame[2], RL = frame[4];
+    if (option < 1 || option > 4 || frame[3] != 0x00 || RL < 1 || RL > 100)
+        return false;
+    put_head(reply, 0x1D);
+    put(reply, (uint8_t)(2 * RL));
+    for (unsigned at = 0; at < RL; at++)
+        put_low_first(reply, of_option[option - 1]->of[at], 2);
+    return true;
+}
+
+/* "The command byte decides the length and the meaning". False is number 4. */
+static bool obey(struct board *board, const uint8_t *frame, size_t length, struct reply *reply)
+{
+    switch (frame[1]) {
+    case 0x02: return length == 5 && clear(board, frame[2], reply);
+    case 0x03: return length == 8 && read_block(board, frame, reply);
+    case 0x10: return length >= 9 && length == 9 + 2 * (size_t)frame[5] && write_block(board, frame, reply);
+    case 0x11:
+    case 0x12: return length == 4 && send_events(board, frame[1], reply);
+    case 0x14: return length == 4 && send_data(0x14, pair(board, 36), 4, reply);
+    case 0x15: return length == 4 && send_data(0x15, pair(board, 38), 4, reply);
+    case 0x16: return length == 4 && send_data(0x16, board_register(board, 41), 2, reply);
+    case 0x17: return length == 4 && send_data(0x17, board_register(board, 40), 2, reply);
+    case 0x18: return length == 4 && send_data(0x18, board_register(board, 50), 2, reply);
+    case 0x19: return length == 4 && send_data(0x19, pair(board, 32), 4, reply);
+    case 0x1B: return length == 4 && send_temperatures(board, reply);
+    case 0x1C: return length == 4 && send_cells(board, reply);
+    case 0x1D: return length == 7 && send_settings(board, frame, reply);
+    default: return false;
+    }
+}
+
+/* ---- A frame: "The lowest number that applies is given", number 21 before all others ---- */
+
+enum number board_frame(struct board *board, const uint8_t *frame, size_t length, uint8_t *reply, size_t room)
+{
+    memset(reply, 0, room);
+    if (board->cells == 0)
+        return NO_BOARD;
+    if (room < LEAST_ROOM)
+        return ROOM_TOO_SMALL;
+    if (length < 4 || frame[0] != 0xAA)
+        return NOT_A_FRAME;
+    const uint16_t crc = crc_of(frame, length - 2);
+    if (frame[length - 2] != (crc & 0xFF) || frame[length - 1] != crc >> 8) {
+        put_nack(reply, frame[1], 0x01);
+        return WRONG_CRC;
+    }
+    struct reply answer = {reply, 0};
+    if (!obey(board, frame, length, &answer)) {
+        put_nack(reply, frame[1], 0x00);
+        return AGAINST_A_RULE;
+    }
+    put_crc(&answer);
+    return DONE;
+}
