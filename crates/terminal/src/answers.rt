@@ -1,10 +1,8 @@
 // Answers as text, put into the output buffer from a place on; each function gives the place after it.
 ghost use Prim.Native.Nat.{_≤_};
 ghost use lib.ListN.{length};
-
-const LF: u8 = 10;
-
-const SPACE: u8 = 32;
+use crate::lines::LF;
+use crate::words::SPACE;
 
 // What stands after a call: document 01's number, the switches, and registers 51 and 52.
 pub(crate) struct State {
@@ -15,7 +13,8 @@ pub(crate) struct State {
     pub real: u16,
 }
 
-pub(crate) fn put(out: &mut [u8], at: usize, byte: u8) -> usize {
+// Beyond the buffer nothing is put: its room is seen to before each answer.
+fn put(out: &mut [u8], at: usize, byte: u8) -> usize {
     if at < out.len() {
         out[at] = byte;
         return at + 1;
@@ -95,7 +94,7 @@ fn put_decimal(out: &mut [u8], at: usize, number: usize) -> usize {
 // The last digit of a number, where it is wanted.
 fn put_digit(out: &mut [u8], at: usize, number: usize, wanted: bool) -> usize {
     if wanted {
-        return put(out, at, 48 + ((number % 10) as u8));
+        return put(out, at, b'0' + ((number % 10) as u8));
     }
     at
 }
@@ -112,5 +111,9 @@ fn put_byte(out: &mut [u8], at: usize, byte: u8) -> usize {
 
 fn hex_code(digit: u8) -> u8 {
     let last = digit % 16;
-    if last < 10 { 48 + last } else { 55 + last }
+    if last < 10 {
+        b'0' + last
+    } else {
+        b'A' + (last - 10)
+    }
 }

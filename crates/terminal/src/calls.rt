@@ -20,25 +20,13 @@ use readings::Readings;
 
 const LONGEST_LINE: usize = 4000;
 
-const MOST_BYTES: usize = 300;
+pub(crate) const MOST_BYTES: usize = 300;
 
-const MOST_CELLS: usize = 32;
+pub(crate) const MOST_CELLS: usize = 32;
 
 const MOST_ROOM: usize = 600;
 
-const MARK: u8 = 35; // of a comment
-
-// What goes from block to block: the board, and how much of an unfinished line is carried over.
-pub(crate) struct Desk {
-    pub board: Board,
-    pub held: usize,
-}
-
-// The board after a call, and how many bytes of answers wait to be written.
-pub(crate) struct After {
-    pub board: Board,
-    pub said: usize,
-}
+const COMMENT: u8 = b'#';
 
 // What a line asks for; the bytes and the cells stand beside it, `count` of them.
 pub(crate) enum Call {
@@ -51,11 +39,10 @@ pub(crate) enum Call {
     Crc(usize),
 }
 
-// Before the first start: a board that was started with 0 cells.
-pub(crate) fn new_desk() -> Desk {
-    let answer = Board::start(0, 0);
-    let board = answer.board;
-    Desk { board, held: 0 }
+// The board after a call, and how many bytes of answers wait to be written.
+pub(crate) struct After {
+    pub board: Board,
+    pub said: usize,
 }
 
 // The call's answer as a line after those that wait already.
@@ -74,10 +61,7 @@ pub(crate) fn answered(
             said: put_wrong(out, said),
         },
         Call::Start { cells, per_km } => told(Board::start(cells, per_km), out, said),
-        Call::Tick { readings, count } => {
-            let given = least(count, voltages.len());
-            told(board.tick(&voltages[0..given], readings), out, said)
-        }
+        Call::Tick { readings, count } => ticked(board, readings, count, voltages, out, said),
         Call::Frame { room, count } => {
             let length = least(count, request.len());
             framed(board, &request[0..length], room, out, said)
@@ -93,6 +77,18 @@ pub(crate) fn answered(
     }
 }
 
+pub(crate) fn ticked(
+    board: Board,
+    readings: Readings,
+    count: usize,
+    voltages: &[u16],
+    out: &mut [u8],
+    said: usize,
+) -> After {
+    let given = least(count, voltages.len());
+    told(board.tick(&voltages[0..given], readings), out, said)
+}
+
 fn told(answer: Answer, out: &mut [u8], said: usize) -> After {
     let next = put_state(out, said, state_of(answer));
     let end = put_end(out, next);
@@ -100,6 +96,7 @@ fn told(answer: Answer, out: &mut [u8], said: usize) -> After {
     After { board, said: end }
 }
 
+// The reply buffer is filled with 0x5A, so that a byte that a frame leaves alone shows.
 fn framed(board: Board, request: &[u8], room: usize, out: &mut [u8], said: usize) -> After {
     let mut reply = [0x5Au8; MOST_ROOM];
     let free = least(room, MOST_ROOM);
@@ -125,13 +122,13 @@ fn state_of(answer: Answer) -> State {
     }
 }
 
-// A comment and a line of spaces alone ask for nothing, however long.
+// What a line, without its end, asks for. A comment and a line of spaces alone ask for nothing, however long.
 pub(crate) fn call_of(line: &[u8], request: &mut [u8], voltages: &mut [u16]) -> Call {
     let at = next_word(line, 0);
     if line.len() <= at {
         return Call::Nothing;
     }
-    if line[0] == MARK {
+    if line[0] == COMMENT {
         return Call::Nothing;
     }
     if LONGEST_LINE < line.len() {
@@ -206,18 +203,18 @@ fn tick_call(line: &[u8], from: usize, voltages: &mut [u16]) -> Call {
 }
 
 fn frame_call(line: &[u8], from: usize, request: &mut [u8]) -> Call {
-    let room = number(line, from, 600);
+    let room = number(line, from, MOST_ROOM as u64);
+    if !room.good {
+        return Call::Wrong;
+    }
     let given = bytes(line, room.next, request);
     let List::Of(count) = given else {
         return Call::Wrong;
     };
-    if room.good {
-        return Call::Frame {
-            room: room.value as usize,
-            count,
-        };
+    Call::Frame {
+        room: room.value as usize,
+        count,
     }
-    Call::Wrong
 }
 
 fn handover_call(line: &[u8], from: usize) -> Call {
@@ -236,10 +233,12 @@ fn crc_call(line: &[u8], from: usize, request: &mut [u8]) -> Call {
     Call::Crc(count)
 }
 
+// The temperature that `signed_number` told as 32768 more.
 fn lowered_16(value: u64) -> i16 {
     signed::from_bits(((value % 65536 + 32768) % 65536) as u16)
 }
 
+// The current that it told as 2147483648 more.
 fn lowered_32(value: u64) -> i32 {
     let bits = value % 4294967296;
     if bits < 2147483648 {

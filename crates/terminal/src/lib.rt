@@ -4,13 +4,13 @@ mod calls;
 mod lines;
 mod words;
 
-ghost use Prim.Native.Nat.{_≤_};
-ghost use lib.ListN.{length};
+use crate::calls::After;
 use crate::calls::Call;
-use crate::calls::Desk;
+use crate::calls::MOST_BYTES;
+use crate::calls::MOST_CELLS;
 use crate::calls::answered;
 use crate::calls::call_of;
-use crate::calls::new_desk;
+use crate::calls::ticked;
 use crate::lines::appended;
 use crate::lines::least;
 use crate::lines::line_end;
@@ -23,16 +23,22 @@ const OUTPUT: i32 = 1;
 
 const MESSAGES: i32 = 2;
 
-// Answers are written before fewer bytes than this are free: the longest has 1,824.
+// Answers are written before fewer bytes than this are free: the longest has 1,819.
 const ANSWER_ROOM: usize = 2048;
+
+// What goes from block to block: the board, and how much of an unfinished line is carried over.
+struct Desk {
+    board: Board,
+    held: usize,
+}
 
 // Answers standard input on standard output until the input ends.
 pub fn serve() {
     let mut block = io::large_buffer();
     let mut line = io::buffer();
     let mut out = io::large_buffer();
-    let mut request = [0u8; 300];
-    let mut voltages = [0u16; 32];
+    let mut request = [0u8; MOST_BYTES];
+    let mut voltages = [0u16; MOST_CELLS];
     let prompts = libc::isatty(INPUT) == 1;
     answer_all(
         prompts,
@@ -65,19 +71,11 @@ fn answer_all(
     last_answered(desk, line, request, voltages, out);
 }
 
-// The last line, where it lacks its end; a CR there is a byte of it.
-fn last_answered(
-    desk: Desk,
-    line: &[u8],
-    request: &mut [u8],
-    voltages: &mut [u16],
-    out: &mut [u8],
-) {
-    let held = least(desk.held, line.len());
-    let call = call_of(&line[0..held], request, voltages);
-    let board = desk.board;
-    let after = answered(board, call, request, voltages, out, 0);
-    written(out, after.said);
+// Before the first start there is a board that was started with 0 cells.
+fn new_desk() -> Desk {
+    let answer = Board::start(0, 0);
+    let board = answer.board;
+    Desk { board, held: 0 }
 }
 
 // One read; 0 at the end of the input, or where it cannot be read.
@@ -108,7 +106,7 @@ fn block_answered(
         from = end + 1;
         end = line_end(block, from);
         held = 0;
-        let after = answered(board, call, request, voltages, out, said);
+        let after = line_answered(board, call, request, voltages, out, said);
         board = after.board;
         said = with_room(out, after.said);
     }
@@ -117,7 +115,22 @@ fn block_answered(
     Desk { board, held }
 }
 
-// A line whose last piece this is. One that stands whole in the block is not copied.
+// Nearly every line is a tick. Where it does not go by the other calls' code, its board is copied less.
+fn line_answered(
+    board: Board,
+    call: Call,
+    request: &[u8],
+    voltages: &[u16],
+    out: &mut [u8],
+    said: usize,
+) -> After {
+    match call {
+        Call::Tick { readings, count } => ticked(board, readings, count, voltages, out, said),
+        _ => answered(board, call, request, voltages, out, said),
+    }
+}
+
+// The call of a line whose last piece this is. A line that stands whole in the block is not copied.
 fn piece_call(
     piece: &[u8],
     line: &mut [u8],
@@ -135,6 +148,22 @@ fn piece_call(
     call_of(&line[0..length], request, voltages)
 }
 
+// The last line, where it lacks its end; a CR there is a byte of it.
+fn last_answered(
+    desk: Desk,
+    line: &[u8],
+    request: &mut [u8],
+    voltages: &mut [u16],
+    out: &mut [u8],
+) {
+    let held = least(desk.held, line.len());
+    let call = call_of(&line[0..held], request, voltages);
+    let board = desk.board;
+    let after = answered(board, call, request, voltages, out, 0);
+    written(out, after.said);
+}
+
+// How many bytes of answers wait, once there is room for another.
 fn with_room(out: &[u8], said: usize) -> usize {
     if out.len() < ANSWER_ROOM {
         return said;

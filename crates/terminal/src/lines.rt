@@ -1,12 +1,11 @@
 // Bytes into lines. A line that a block leaves unfinished is carried over in a buffer of its own.
 ghost use Prim.Native.Nat.{_≤_};
 ghost use lib.ListN.{length};
+use crate::words::SPACE;
 
-const LF: u8 = 10;
+pub(crate) const LF: u8 = b'\n';
 
-const CR: u8 = 13;
-
-const SPACE: u8 = 32;
+const CR: u8 = b'\r';
 
 // The place of the first LF at or after a place; the block's length where there is none.
 pub(crate) fn line_end(block: &[u8], from: usize) -> usize
@@ -48,7 +47,7 @@ pub(crate) fn appended(line: &mut [u8], held: usize, piece: &[u8]) -> usize {
     count
 }
 
-// One byte more. Of a line that fills the buffer, and so is too long for a call, only three things still matter: its
+// One byte more. Of a line that fills the buffer, which is longer than any call, only three things still matter: its
 // first byte, its last, and whether a byte between them is no space. So the last place but one keeps any such byte.
 fn held_byte(line: &mut [u8], held: usize, byte: u8) -> usize {
     if held < line.len() {

@@ -1,9 +1,9 @@
 // The words of a line: calls, decimal numbers and bytes of two hex digits. Only the space parts words.
 ghost use Prim.Native.Nat.{_<_, _≤_};
 
-const SPACE: u8 = 32;
+pub(crate) const SPACE: u8 = b' ';
 
-const MINUS: u8 = 45;
+const MINUS: u8 = b'-';
 
 // No number of a call is so high, so the digits after it need not be counted.
 const TOO_HIGH: u64 = 1000000000000;
@@ -22,13 +22,13 @@ enum Byte {
     Wrong,
 }
 
-// All the words to the end of the line.
+// How many words there are to the end of the line, where all are right.
 pub(crate) enum List {
     Of(usize),
     Wrong,
 }
 
-// The place of the next word; past the line where there is none.
+// The place of the next word at or after a place; past the line where there is none.
 pub(crate) fn next_word(line: &[u8], from: usize) -> usize {
     let mut at = from;
     while at < line.len() {
@@ -98,6 +98,7 @@ pub(crate) fn signed_number(line: &[u8], from: usize, half: u64) -> Figure
     }
 }
 
+// The place after a minus that stands at a place; the same place where there is none.
 fn after_minus(line: &[u8], at: usize) -> usize {
     if line.len() <= at {
         return at;
@@ -120,7 +121,7 @@ fn digits(line: &[u8], from: usize, most: u64) -> Figure
     taken(line, from, at, value, most)
 }
 
-// A number whose digits stand from one place to another.
+// The number whose digits stand from one place to another.
 fn taken(line: &[u8], from: usize, end: usize, value: u64, most: u64) -> Figure
     ensures { λ r. ⌜ r .value ≤ most ⌝ }
 {
@@ -149,7 +150,7 @@ fn wrong(line: &[u8]) -> Figure
 }
 
 fn is_digit(code: u8) -> bool {
-    (48 <= code) & (code <= 57)
+    (b'0' <= code) & (code <= b'9')
 }
 
 // The low half of a digit's code is the digit.
@@ -228,12 +229,12 @@ fn byte_at(line: &[u8], at: usize) -> Byte {
     Byte::Wrong
 }
 
-// 16 where it is none.
+// The digit that a letter stands for; 16 where it stands for none.
 fn hex_digit(code: u8) -> u8 {
     match code {
-        48..=57 => code - 48,
-        65..=70 => code - 55,
-        97..=102 => code - 87,
+        b'0'..=b'9' => code - b'0',
+        b'A'..=b'F' => code - b'A' + 10,
+        b'a'..=b'f' => code - b'a' + 10,
         _ => 16,
     }
 }

@@ -37,8 +37,8 @@ add-from c = search needs
 line-end-requires-2 : tie.Need-line-end-requires-2 Inv-loop μ-loop
 line-end-requires-2 c κs = search needs
 
-answered-requires : tie.Need-answered-requires Inv-loop μ-loop
-answered-requires c κs = search needs
+line-answered-requires : tie.Need-line-answered-requires Inv-loop μ-loop
+line-answered-requires c κs = search needs
 
 with-room-requires : tie.Need-with-room-requires Inv-loop μ-loop
 with-room-requires c κs = search needs
@@ -95,7 +95,7 @@ block-answered-spec =
     piece-call-requires
     add-from
     line-end-requires-2
-    answered-requires
+    line-answered-requires
     with-room-requires
     loop-less
     loop-again
