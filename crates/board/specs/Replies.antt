@@ -14,6 +14,7 @@ use Rattle.board.specs.declared.Answer.{Answer}
 use Rattle.board.specs.declared.request.Query.{Query}
 use Rattle.board.specs.declared.request.Query.the-variants.{Registers, Live, NewEvents, AllEvents, Temperatures, Cells, SettingsOf}
 use Rattle.board.specs.declared.request.Request.{Request}
+use Rattle.board.specs.Registers.{lowHalf, highHalf}
 use Rattle.board.specs.Wire.{word16, words, Filled}
 use Rattle.board.specs.Frames.{valueAt, eventLongs, commandOf, requestNumber, requestBoard, requestReply}
 
@@ -48,7 +49,7 @@ countOf b (SettingsOf kind n) = n
 
 -- the i-th word of a row of four-byte numbers
 abbrev pub halfOf : ℕ → ℕ → ℕ
-halfOf long i = cond (eqb (i % 2) 0) (long % 65536) (long / 65536)
+halfOf long i = cond (eqb (i % 2) 0) (lowHalf long) (highHalf long)
 
 abbrev pub halfAt : (ℕ → ℕ) → ℕ → ℕ
 halfAt long i = halfOf (long (i / 2)) i

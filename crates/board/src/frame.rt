@@ -12,6 +12,8 @@ ghost use Rattle.events.specs.Events.{keptOf, newOf, sentOf};
 use crate::Answer;
 use crate::Board;
 use crate::registers::Shown;
+use crate::registers::high_half;
+use crate::registers::low_half;
 use crate::request::Query;
 use crate::request::Request;
 use crate::request::high_first_at;
@@ -327,8 +329,8 @@ fn half(long: u32, i: u16) -> u16
     ensures { λ r. ⌜ r ≡ halfOf long i ⌝ }
 {
     if i % 2 == 0 {
-        (long % 65536) as u16
+        low_half(long)
     } else {
-        (long / 65536) as u16
+        high_half(long)
     }
 }

@@ -126,13 +126,15 @@ impl Board {
     }
 }
 
-fn low_half(n: u32) -> u16
+// The two halves of a pair.
+
+pub(crate) fn low_half(n: u32) -> u16
     ensures { λ r. ⌜ r ≡ lowHalf n ⌝ }
 {
     (n % 65536) as u16
 }
 
-fn high_half(n: u32) -> u16
+pub(crate) fn high_half(n: u32) -> u16
     ensures { λ r. ⌜ r ≡ highHalf n ⌝ }
 {
     (n / 65536) as u16
