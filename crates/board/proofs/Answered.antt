@@ -18,18 +18,19 @@ use Rattle.settings.specs.declared.Verdict.{Verdict}
 use Rattle.settings.specs.declared.Verdict.the-variants.{Taken, OutOfRange, OutOfOrder}
 use Rattle.settings.specs.Settings as settings
 use Rattle.board.specs.declared.Board.{Board}
-use Rattle.board.specs.declared.request.Query.{Query}
-use Rattle.board.specs.declared.request.Query.the-variants.{Registers, Live, NewEvents, AllEvents, Temperatures, Cells, SettingsOf}
-use Rattle.board.specs.declared.request.Command.{Command}
-use Rattle.board.specs.declared.request.Command.the-variants.{Clear, Block, Write, Ask, AskSettings, Unknown}
-use Rattle.board.specs.declared.request.Expected.{Expected}
-use Rattle.board.specs.declared.request.Request.{Request}
-use Rattle.board.specs.declared.request.Request.the-variants as request
+use Rattle.requests.specs.declared.Query.{Query}
+use Rattle.requests.specs.declared.Query.the-variants.{Registers, Live, NewEvents, AllEvents, Temperatures, Cells, SettingsOf}
+use Rattle.requests.specs.declared.Command.{Command}
+use Rattle.requests.specs.declared.Command.the-variants.{Clear, Block, Write, Ask, AskSettings, Unknown}
+use Rattle.requests.specs.declared.Expected.{Expected}
+use Rattle.requests.specs.declared.Request.{Request}
+use Rattle.requests.specs.declared.Request.the-variants as request
 use Rattle.board.specs.State.{usable, withSettings, withEvents}
 use Rattle.board.specs.Tick.{tickOf, tickNumber, tickedOf}
 use Rattle.board.specs.Handover.{handoverOf, handedOver}
-use Rattle.board.specs.Wire.{le16, be16, le32, be16At, le16At, words, sealed, padded}
-use Rattle.board.specs.Frames.{expect, expectedOf, between, inOneRange, clearOf, blockOf, writeOf, settingsOf, fieldsOf, askedOf, requestOf, valueAt, eventLongs, bodyOf, payloadOf, commandOf, tooLong, marks, draftedOf, writtenTo, requestNumber, requestBoard, requestReply, frameNumber, frameBoard, frameReply, nackOf}
+use Rattle.requests.specs.Requests.{be16At, le16At, expect, expectedOf, inOneRange, between, clearOf, blockOf, writeOf, settingsOf, fieldsOf, askedOf, requestOf, commandOf, draftedOf}
+use Rattle.board.specs.Wire.{le16, be16, le32, words, sealed, padded}
+use Rattle.board.specs.Frames.{valueAt, eventLongs, bodyOf, payloadOf, tooLong, marks, writtenTo, requestNumber, requestBoard, requestReply, frameNumber, frameBoard, frameReply, nackOf}
 use Rattle.board.specs.Calls.{Call, step, tick, frame, handover}
 use Rattle.board.specs.Behaviour.{board, afterIn}
 use Rattle.board.specs.Demands.{refusedBuffer, Leaves, Demand1}

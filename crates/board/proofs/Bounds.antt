@@ -35,10 +35,11 @@ use Rattle.settings.specs.Settings as settings
 use Rattle.signed.specs.Signed.{above, below}
 use Rattle.statistics.specs.Statistics.{hundreds}
 use Rattle.board.specs.declared.Board.{Board}
-use Rattle.board.specs.declared.request.Request.{Request}
-use Rattle.board.specs.declared.request.Request.the-variants as request
+use Rattle.requests.specs.declared.Request.{Request}
+use Rattle.requests.specs.declared.Request.the-variants as request
 use Rattle.board.specs.Start.{noSensed, startBoard}
-use Rattle.board.specs.Frames.{requestOf, marks, draftedOf}
+use Rattle.requests.specs.Requests.{requestOf, draftedOf}
+use Rattle.board.specs.Frames.{marks}
 use Rattle.board.specs.Calls.{Call, tick, frame, handover}
 use Rattle.board.specs.Behaviour.{afterIn, board}
 use Rattle.board.specs.Demands.{deeds}

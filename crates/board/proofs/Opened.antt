@@ -16,7 +16,8 @@ use Rattle.board.specs.Tick.{readingsOf, laterOf, timeOf, speedAndDistan
 use Rattle.board.specs.Registers.{liveRegister, shownAt}
 use Rattle.board.specs.Handover.{handedOver, handoverOf}
 use Rattle.board.specs.Wire.{words, sealed, padded}
-use Rattle.board.specs.Frames.{expectedOf, clearOf, blockOf, writeOf, kindOf, settingsOf, fieldsOf, askedOf, requestOf, valueAt, bodyOf, payloadOf, commandOf, marks, draftedOf, requestNumber, requestBoard, requestReply, frameNumber, frameBoard, frameReply}
+use Rattle.requests.specs.Requests.{expectedOf, clearOf, blockOf, writeOf, kindOf, settingsOf, fieldsOf, askedOf, requestOf, commandOf, draftedOf}
+use Rattle.board.specs.Frames.{valueAt, bodyOf, payloadOf, marks, requestNumber, requestBoard, requestReply, frameNumber, frameBoard, frameReply}
 use Rattle.board.specs.Calls.{step}
 use Rattle.board.specs.Behaviour.{afterIn, answersIn}
 use Rattle.board.specs.Account.{settingsAt, secondsAt, clockAt, latchedAt, waitsAt, sensedAt, windowAt, chargerAt, statusAt, decisionAt, balancingAt, chargeAt, dischargeAt, eventsAt, statisticsAt, boardAt, requestDeed, deedOf, deedsOf}

@@ -15,10 +15,10 @@ use Rattle.settings.specs.declared.Verdict.the-variants.{Taken, OutOfRange, Out
 use Rattle.settings.specs.declared.Draft.{Draft}
 use Rattle.settings.specs.Settings as settings
 use Rattle.signed.specs.Signed.{fromBits}
-use Rattle.board.specs.declared.request.Request.{Request}
-use Rattle.board.specs.declared.request.Request.the-variants as request
-use Rattle.board.specs.Wire.{be16At}
-use Rattle.board.specs.Frames.{requestOf, marks, draftedOf}
+use Rattle.requests.specs.declared.Request.{Request}
+use Rattle.requests.specs.declared.Request.the-variants as request
+use Rattle.requests.specs.Requests.{be16At, requestOf, draftedOf}
+use Rattle.board.specs.Frames.{marks}
 use Rattle.board.specs.Calls.{Call, tick, frame, handover}
 use Rattle.board.specs.Account.{Deed, took, wrote, cleared, forgot, sent, handed, nothing, row, writing, covers, given, lastWritten, settingsAt, usableCount, requestDeed, deedOf, deedsOf}
 

@@ -7,39 +7,30 @@ use native.Mathlib.Nat.{zero-add}
 use native.Mathlib.Omega.{arith}
 use lib.Dec.{T, eqb}
 use lib.ListN.{length, take, length-append}
-use mir.Val.{hasKey}
-use types.Run.{OneOf, miss}
-use denote.Enum.Declared.{tagOf}
 use borrow.Author.Tests.{lt-ltb, le-ltb, ne-eqb}
 use Rattle.events.specs.Events.{newCount, keptCount}
 use Rattle.settings.specs.Settings as settings
 use Rattle.board.specs.declared.Board.{Board}
-use Rattle.board.specs.declared.request.Query.{Query}
-use Rattle.board.specs.declared.request.Query.the-variants.{Registers, Live, NewEvents, AllEvents, Temperatures, Cells, SettingsOf}
+use Rattle.requests.specs.declared.Query.{Query}
+use Rattle.requests.specs.declared.Query.the-variants.{Registers, Live, NewEvents, AllEvents, Temperatures, Cells, SettingsOf}
 use Rattle.board.specs.Wire.{le16, be16, le32, word16, words, sealed, Wrote, Filled}
-use Rattle.board.specs.Frames.{valueAt, bodyOf, payloadOf, tooLong, commandOf, marks}
-use Rattle.board.specs.Replies.{hasLength, highFirst, countOf, halfAt, wordOf, lengthByte, replyOf}
+use Rattle.requests.specs.Requests.{commandOf, hasLength, highFirst}
+use Rattle.board.specs.Frames.{valueAt, bodyOf, payloadOf, tooLong, marks}
+use Rattle.board.specs.Replies.{countOf, halfAt, wordOf, lengthByte, replyOf}
 use Rattle.board.proofs.Writing.{join-at, reply, length-words}
-use Rattle.board.proofs.request.Query.{the-type}
+use Rattle.requests.proofs.Tags.{tag}
 
--- ---- the last arm of a match on a query: every variant but one, each by the place where it is declared
+-- ---- 0x11 alone marks
 
-abbrev tag : Query → ℕ
-tag = tagOf the-type
-
-pub by-tag : (q : Query) → (hasLength q ≡ not (eqb (tag q) 1)) × (highFirst q ≡ eqb (tag q) 0) × (marks q ≡ eqb (tag q) 2)
-unfolding hasLength highFirst marks
-by-tag (Registers at n) = (refl, refl, refl)
-by-tag (Live command at n) = (refl, refl, refl)
-by-tag NewEvents = (refl, refl, refl)
-by-tag AllEvents = (refl, refl, refl)
-by-tag Temperatures = (refl, refl, refl)
-by-tag Cells = (refl, refl, refl)
-by-tag (SettingsOf kind n) = (refl, refl, refl)
-
--- what an arm stands for is not what it leaves out
-pub others : (ks : List ℕ) (k n : ℕ) → OneOf ks n → T (not (hasKey ks k)) → eqb n k ≡ false
-others ks k n o h = ne-eqb n k (λ e. miss ks k h (rw e at o))
+pub by-tag : (q : Query) → marks q ≡ eqb (tag q) 2
+unfolding marks
+by-tag (Registers at n) = refl
+by-tag (Live command at n) = refl
+by-tag NewEvents = refl
+by-tag AllEvents = refl
+by-tag Temperatures = refl
+by-tag Cells = refl
+by-tag (SettingsOf kind n) = refl
 
 -- ---- words in a row
 

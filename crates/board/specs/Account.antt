@@ -31,12 +31,12 @@ use Rattle.statistics.specs.Statistics.{hundreds, distanceOf}
 use Rattle.board.specs.declared.Clock.{Clock}
 use Rattle.board.specs.declared.Sensed.{Sensed}
 use Rattle.board.specs.declared.Board.{Board}
-use Rattle.board.specs.declared.request.Request.{Request}
-use Rattle.board.specs.declared.request.Request.the-variants as request
+use Rattle.requests.specs.declared.Request.{Request}
+use Rattle.requests.specs.declared.Request.the-variants as request
 use Rattle.board.specs.Start.{noSensed}
 use Rattle.board.specs.Tick.{chargerEvent, statusFor}
-use Rattle.board.specs.Wire.{be16At}
-use Rattle.board.specs.Frames.{requestOf, marks, draftedOf}
+use Rattle.requests.specs.Requests.{be16At, requestOf, draftedOf}
+use Rattle.board.specs.Frames.{marks}
 use Rattle.board.specs.Calls.{Call, tick, frame, handover}
 
 -- ---- deeds

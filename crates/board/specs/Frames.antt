@@ -1,17 +1,14 @@
--- Frames. The command byte decides the length and the meaning; all lengths include AA and CRC.
+-- Frames: what the board answers to a request, and what a request changes (what it asks: crate `requests`).
 -- Assumes nothing.
-use mathlib.Core.Bool.{Bool, true, false, _&&_, _||_, not, cond}
+use mathlib.Core.Bool.{Bool, true, false, _&&_, not, cond}
 use mathlib.Core.List.{List, [], _∷_, _++_}
 use mathlib.Core.Path.{_≡_}
-use Prim.Native.Nat.{ℕ, zero, suc, _+_, _-_, _*_, _/_, _%_}
-use lib.Dec.{eqb, leb, ltb}
-use lib.ListN.{length, take, getD}
-use Rattle.crc.specs.Crc.{crcOf}
+use Prim.Native.Nat.{ℕ, _+_, _-_, _*_}
+use lib.Dec.{eqb, ltb}
+use lib.ListN.{length}
 use Rattle.events.specs.declared.Event.{Event}
 use Rattle.events.specs.Events.{noEvents, sentOf, fourBytes, keptCount, newCount, keptOf, newOf, placed}
 use Rattle.settings.specs.declared.Settings.{Settings}
-use Rattle.settings.specs.declared.Kind.{Kind}
-use Rattle.settings.specs.declared.Kind.the-variants.{Minimum, Maximum, Default, Current}
 use Rattle.settings.specs.declared.Draft.{Draft}
 use Rattle.settings.specs.Settings as settings
 use Rattle.signed.specs.Signed as signed
@@ -21,91 +18,14 @@ use Rattle.board.specs.declared.Board.{Board}
 use Rattle.board.specs.declared.Answer.{Answer}
 use Rattle.board.specs.declared.registers.Shown.{Shown}
 use Rattle.board.specs.declared.registers.Shown.the-variants.{Register, Nothing}
-use Rattle.board.specs.declared.request.Query.{Query}
-use Rattle.board.specs.declared.request.Query.the-variants.{Registers, Live, NewEvents, AllEvents, Temperatures, Cells, SettingsOf}
-use Rattle.board.specs.declared.request.Command.{Command}
-use Rattle.board.specs.declared.request.Command.the-variants.{Clear, Block, Write, Ask, AskSettings, Unknown}
-use Rattle.board.specs.declared.request.Expected.{Expected}
-use Rattle.board.specs.declared.request.Request.{Request}
-use Rattle.board.specs.declared.request.Request.the-variants as request
+use Rattle.requests.specs.declared.Query.{Query}
+use Rattle.requests.specs.declared.Query.the-variants.{Registers, Live, NewEvents, AllEvents, Temperatures, Cells, SettingsOf}
+use Rattle.requests.specs.declared.Request.{Request}
+use Rattle.requests.specs.declared.Request.the-variants as request
 use Rattle.board.specs.State.{usable, withSettings, withEvents, withStatistics}
 use Rattle.board.specs.Registers.{shownAt}
-use Rattle.board.specs.Wire.{le16, be16, le32, words, be16At, le16At, sealed, padded}
-
--- ---- what a request asks
-
-abbrev pub expect : ℕ → Command → Expected
-expect n c = record { length = n; command = c }
-
--- the length that a command's request has, and what it asks; 0x10 is 9+2·RL bytes long
-unfoldable pub expectedOf : ℕ → ℕ → Expected
-expectedOf command rl =
-    cond (eqb command 0x02) (expect 5 Clear)
-    (cond (eqb command 0x03) (expect 8 Block)
-    (cond (eqb command 0x10) (expect (9 + 2 * rl) Write)
-    (cond (eqb command 0x11) (expect 4 (Ask NewEvents))
-    (cond (eqb command 0x12) (expect 4 (Ask AllEvents))
-    (cond (eqb command 0x14) (expect 4 (Ask (Live 0x14 36 2)))
-    (cond (eqb command 0x15) (expect 4 (Ask (Live 0x15 38 2)))
-    (cond (eqb command 0x16) (expect 4 (Ask (Live 0x16 41 1)))
-    (cond (eqb command 0x17) (expect 4 (Ask (Live 0x17 40 1)))
-    (cond (eqb command 0x18) (expect 4 (Ask (Live 0x18 50 1)))
-    (cond (eqb command 0x19) (expect 4 (Ask (Live 0x19 32 2)))
-    (cond (eqb command 0x1B) (expect 4 (Ask Temperatures))
-    (cond (eqb command 0x1C) (expect 4 (Ask Cells))
-    (cond (eqb command 0x1D) (expect 7 AskSettings)
-    (expect 0 Unknown))))))))))))))
-
--- a register block must lie in one range: 0 to 55, 100 to 117, or 300 to 399
-abbrev pub inOneRange : ℕ → ℕ → Bool
-inOneRange at n = leb (at + n) 56 || leb 100 at && leb (at + n) 118 || leb 300 at && leb (at + n) 400
-
--- from least to most
-abbrev pub between : ℕ → ℕ → ℕ → Bool
-between least most n = leb least n && leb n most
-
--- 0x02: option 01 clears events, 02 clears statistics; others are number 4
-unfoldable pub clearOf : ℕ → Request
-clearOf option = cond (eqb option 1) request.ClearEvents (cond (eqb option 2) request.ClearStatistics (request.Refused 0x02))
-
--- 0x03: address high, low, 00, RL. RL 1 to 127
-unfoldable pub blockOf : ℕ → ℕ → ℕ → Request
-blockOf at padding rl = cond (eqb padding 0 && between 1 127 rl && inOneRange at rl) (request.Read (Registers at rl)) (request.Refused 0x03)
-
--- 0x10: address high, low, 00, RL, PL. RL 1 to 100, PL = 2·RL, addresses all in 300 to 399
-unfoldable pub writeOf : ℕ → ℕ → ℕ → ℕ → Request
-writeOf at padding rl pl =
-    cond (eqb padding 0 && between 1 100 rl && eqb pl (2 * rl) && leb 300 at && leb (at + rl) 400) (request.Write (at - 300) rl) (request.Refused 0x10)
-
--- 0x1D: option 1 to 4 (minimum, maximum, default, current), 00, RL 1 to 100
-unfoldable pub kindOf : ℕ → Kind
-kindOf option = cond (eqb option 1) Minimum (cond (eqb option 2) Maximum (cond (eqb option 3) Default Current))
-
-unfoldable pub settingsOf : ℕ → ℕ → ℕ → Request
-settingsOf option padding rl =
-    cond (between 1 4 option && eqb padding 0 && between 1 100 rl) (request.Read (SettingsOf (kindOf option) rl)) (request.Refused 0x1D)
-
--- the fields of a request whose length is right
-unfoldable pub fieldsOf : Command → ℕ → List ℕ → Request
-fieldsOf Clear command s = clearOf (getD s 2 0)
-fieldsOf Block command s = blockOf (be16At s 2) (getD s 4 0) (getD s 5 0)
-fieldsOf Write command s = writeOf (be16At s 2) (getD s 4 0) (getD s 5 0) (getD s 6 0)
-fieldsOf (Ask q) command s = request.Read q
-fieldsOf AskSettings command s = settingsOf (getD s 2 0) (getD s 3 0) (getD s 4 0)
-fieldsOf Unknown command s = request.Refused command
-
--- unknown command, wrong length, or a field against its rule
-unfoldable pub askedOf : ℕ → List ℕ → Request
-askedOf command s =
-    cond (eqb (length s) (expectedOf command (getD s 5 0) .length)) (fieldsOf (expectedOf command (getD s 5 0) .command) command s) (request.Refused command)
-
--- under 4 bytes, or first byte not 0xAA; last two bytes are not the CRC of the rest
-unfoldable pub requestOf : List ℕ → Request
-requestOf s =
-    cond (ltb (length s) 4) request.Foreign
-    (cond (eqb (getD s 0 0) 0xAA)
-    (cond (eqb (crcOf (take (length s - 2) s)) (le16At s (length s - 2))) (askedOf (getD s 1 0) s) (request.Damaged (getD s 1 0)))
-    request.Foreign)
+use Rattle.requests.specs.Requests.{requestOf, commandOf, draftedOf}
+use Rattle.board.specs.Wire.{le16, be16, le32, words, sealed, padded}
 
 -- ---- what the board answers
 
@@ -151,16 +71,6 @@ payloadOf b Temperatures = 6
 payloadOf b Cells = 2 * (b .pack .cells)
 payloadOf b (SettingsOf kind n) = 2 * n
 
--- the command that a query answers to
-unfoldable pub commandOf : Query → ℕ
-commandOf (Registers at n) = 0x03
-commandOf (Live command at n) = command
-commandOf NewEvents = 0x11
-commandOf AllEvents = 0x12
-commandOf Temperatures = 0x1B
-commandOf Cells = 0x1C
-commandOf (SettingsOf kind n) = 0x1D
-
 -- 5: reply payload above 254 bytes
 abbrev pub tooLong : Board → Query → Bool
 tooLong b q = ltb 254 (payloadOf b q)
@@ -175,11 +85,7 @@ marks Temperatures = false
 marks Cells = false
 marks (SettingsOf kind n) = false
 
--- n registers of a request, from the register 300 + from, high byte first, put into a draft
-unfoldable pub draftedOf : Draft → List ℕ → ℕ → ℕ → Draft
-draftedOf d s from zero = d
-draftedOf d s from (suc n) = settings.putOf (draftedOf d s from n) (300 + from + n) (be16At s (7 + 2 * n))
-
+-- the draft that a write makes of the settings in force
 abbrev pub writtenTo : Board → List ℕ → ℕ → ℕ → Draft
 writtenTo b s from n = draftedOf (settings.draftOf (b .pack .settings)) s from n
 

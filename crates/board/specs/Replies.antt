@@ -1,7 +1,7 @@
 -- How a reply to a query is made: a head, and words of sixteen bits from one word function. That this is the reply of Frames.antt
 -- is a law (proofs/Sending).
 -- Assumes nothing.
-use mathlib.Core.Bool.{Bool, true, false, cond}
+use mathlib.Core.Bool.{Bool, cond}
 use mathlib.Core.List.{List, [], _∷_, _++_}
 use mathlib.Core.Path.{_≡_}
 use Prim.Native.Nat.{ℕ, _+_, _*_, _/_, _%_}
@@ -11,31 +11,13 @@ use Rattle.settings.specs.Settings as settings
 use Rattle.signed.specs.Signed as signed
 use Rattle.board.specs.declared.Board.{Board}
 use Rattle.board.specs.declared.Answer.{Answer}
-use Rattle.board.specs.declared.request.Query.{Query}
-use Rattle.board.specs.declared.request.Query.the-variants.{Registers, Live, NewEvents, AllEvents, Temperatures, Cells, SettingsOf}
-use Rattle.board.specs.declared.request.Request.{Request}
+use Rattle.requests.specs.declared.Query.{Query}
+use Rattle.requests.specs.declared.Query.the-variants.{Registers, Live, NewEvents, AllEvents, Temperatures, Cells, SettingsOf}
+use Rattle.requests.specs.declared.Request.{Request}
 use Rattle.board.specs.Registers.{lowHalf, highHalf}
 use Rattle.board.specs.Wire.{word16, words, Filled}
-use Rattle.board.specs.Frames.{valueAt, eventLongs, commandOf, requestNumber, requestBoard, requestReply}
-
--- 0x14 to 0x19 have no PL
-unfoldable pub hasLength : Query → Bool
-hasLength (Registers at n) = true
-hasLength (Live command at n) = false
-hasLength NewEvents = true
-hasLength AllEvents = true
-hasLength Temperatures = true
-hasLength Cells = true
-hasLength (SettingsOf kind n) = true
-
-unfoldable pub highFirst : Query → Bool
-highFirst (Registers at n) = true
-highFirst (Live command at n) = false
-highFirst NewEvents = false
-highFirst AllEvents = false
-highFirst Temperatures = false
-highFirst Cells = false
-highFirst (SettingsOf kind n) = false
+use Rattle.requests.specs.Requests.{commandOf, hasLength, highFirst}
+use Rattle.board.specs.Frames.{valueAt, eventLongs, requestNumber, requestBoard, requestReply}
 
 -- how many words
 unfoldable pub countOf : Board → Query → ℕ

@@ -26,13 +26,6 @@ unfoldable pub words : (ℕ → List ℕ) → (ℕ → ℕ) → ℕ → ℕ → 
 words bytes f at zero = []
 words bytes f at (suc n) = words bytes f at n ++ bytes (f (at + n))
 
--- sixteen bits of a request, high byte first; and its last two bytes, low byte first
-abbrev pub be16At : List ℕ → ℕ → ℕ
-be16At s i = 256 * getD s i 0 + getD s (i + 1) 0
-
-abbrev pub le16At : List ℕ → ℕ → ℕ
-le16At s i = getD s i 0 + 256 * getD s (i + 1) 0
-
 -- the bytes, then their CRC, sent low byte first
 unfoldable pub sealed : List ℕ → List ℕ
 sealed xs = xs ++ le16 (crcOf xs)

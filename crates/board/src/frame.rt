@@ -3,21 +3,17 @@ ghost use mathlib.Core.Bool.{cond};
 ghost use mathlib.Core.Path.{_≡_};
 ghost use Prim.Native.Nat.{_+_, _*_, _≤_};
 ghost use lib.ListN.{length};
-ghost use Rattle.board.specs.declared.request.Request.the-variants as request;
 ghost use Rattle.board.specs.State.{withEvents, withStatistics, withSettings};
 ghost use Rattle.board.specs.Wire.{word16, words, sealed, Wrote, Filled};
-ghost use Rattle.board.specs.Frames.{valueAt, eventLongs, draftedOf, marks, clearedStatistics, Frames};
-ghost use Rattle.board.specs.Replies.{hasLength, highFirst, countOf, halfOf, temperatureAt, wordOf, lengthByte, replyOf, Answers};
+ghost use Rattle.requests.specs.Requests.{hasLength, highFirst, draftedOf};
+ghost use Rattle.board.specs.Frames.{valueAt, eventLongs, marks, clearedStatistics, Frames};
+ghost use Rattle.board.specs.Replies.{countOf, halfOf, temperatureAt, wordOf, lengthByte, replyOf, Answers};
 ghost use Rattle.events.specs.Events.{keptOf, newOf, sentOf};
 use crate::Answer;
 use crate::Board;
 use crate::registers::Shown;
 use crate::registers::high_half;
 use crate::registers::low_half;
-use crate::request::Query;
-use crate::request::Request;
-use crate::request::high_first_at;
-use crate::request::parsed;
 use crate::wire::ack;
 use crate::wire::begin;
 use crate::wire::nack;
@@ -26,7 +22,8 @@ use crate::wire::put_word;
 use crate::wire::seal;
 use crate::wire::zero_from;
 use events::Events;
-use settings::Draft;
+use requests::Query;
+use requests::Request;
 use settings::Settings;
 use statistics::Statistics;
 
@@ -49,13 +46,13 @@ impl Board {
                 board: self,
             };
         }
-        let asked = parsed(request);
+        let asked = requests::parsed(request);
         self.answer(request, asked, reply)
     }
 
-    fn answer(self, s: &[u8], asked: Request, reply: &mut [u8]) -> Answer
+    fn answer(self, request: &[u8], asked: Request, reply: &mut [u8]) -> Answer
         requires { ⌜ 259 ≤ length (now reply) ⌝ }
-        ensures { λ r. ⌜ Answers self (now (s .entry)) asked (now (reply .entry)) r (now (reply .exit)) ⌝ }
+        ensures { λ r. ⌜ Answers self (now (request .entry)) asked (now (reply .entry)) r (now (reply .exit)) ⌝ }
     {
         match asked {
             Request::Foreign => {
@@ -89,17 +86,17 @@ impl Board {
                 let board = self.clear_statistics();
                 Answer { number: 0, board }
             }
-            Request::Write { from, count } => self.write(s, from, count, reply),
-            Request::Read(query) => self.read(s, query, reply),
+            Request::Write { from, count } => self.write(request, from, count, reply),
+            Request::Read(query) => self.read(request, query, reply),
         }
     }
 
     // The write goes through the one judgement of settings; refused, it leaves the settings that stood.
-    fn write(self, s: &[u8], from: u8, count: u8, reply: &mut [u8]) -> Answer
+    fn write(self, request: &[u8], from: u8, count: u8, reply: &mut [u8]) -> Answer
         requires { ⌜ 259 ≤ length (now reply) ⌝ }
-        ensures { λ r. ⌜ Answers self (now (s .entry)) (request.Write from count) (now (reply .entry)) r (now (reply .exit)) ⌝ }
+        ensures { λ r. ⌜ Answers self (now (request .entry)) (Request.Write from count) (now (reply .entry)) r (now (reply .exit)) ⌝ }
     {
-        let written = drafted(self.pack.settings.draft(), s, from, count).finish();
+        let written = requests::drafted(self.pack.settings.draft(), request, from, count).finish();
         let verdict = written.verdict;
         let number = verdict.number();
         let board = self.with_settings(written.settings);
@@ -115,9 +112,9 @@ impl Board {
     }
 
     // A query is answered by its words; nothing changes but 0x11's mark.
-    fn read(self, s: &[u8], query: Query, reply: &mut [u8]) -> Answer
+    fn read(self, request: &[u8], query: Query, reply: &mut [u8]) -> Answer
         requires { ⌜ 259 ≤ length (now reply) ⌝ }
-        ensures { λ r. ⌜ Answers self (now (s .entry)) (request.Read query) (now (reply .entry)) r (now (reply .exit)) ⌝ }
+        ensures { λ r. ⌜ Answers self (now (request .entry)) (Request.Read query) (now (reply .entry)) r (now (reply .exit)) ⌝ }
     {
         let count = self.count_of(query);
         if 127 < count {
@@ -273,44 +270,6 @@ impl Board {
         pack.settings = settings;
         Board { pack, hire }
     }
-}
-
-impl Query {
-    fn has_length(self) -> bool
-        ensures { λ r. ⌜ r ≡ hasLength self ⌝ }
-    {
-        match self {
-            Query::Live {
-                command: _,
-                at: _,
-                count: _,
-            } => false,
-            _ => true,
-        }
-    }
-
-    fn high_first(self) -> bool
-        ensures { λ r. ⌜ r ≡ highFirst self ⌝ }
-    {
-        match self {
-            Query::Registers { at: _, count: _ } => true,
-            _ => false,
-        }
-    }
-}
-
-// The registers of a write, high byte first, put into a draft one by one.
-fn drafted(draft: Draft, s: &[u8], from: u8, count: u8) -> Draft
-    ensures { λ r. ⌜ r ≡ draftedOf draft (now (s .entry)) from count ⌝ }
-{
-    let mut all = draft;
-    let mut i: u16 = 0;
-    while i < (count as u16) {
-        let value = high_first_at(s, 7 + 2 * (i as usize));
-        all = all.put(300 + (from as u16) + i, value);
-        i += 1;
-    }
-    all
 }
 
 // The length byte where there is one, and where the words begin.

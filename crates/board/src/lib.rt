@@ -3,7 +3,6 @@
 mod frame;
 mod handover;
 mod registers;
-mod request;
 mod tick;
 mod wire;
 

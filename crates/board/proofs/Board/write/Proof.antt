@@ -13,7 +13,7 @@ use Rattle.board.proofs.Board.write.Tie as tie
 -- what the calls up to the new board give
 told : (c : tie.After-with-settings) →
     let args = c .before .before .before .before .before .before .before .args in
-    let draft = writtenTo (args .self) (now (args .s)) (args .from) (args .count) in
+    let draft = writtenTo (args .self) (now (args .request)) (args .from) (args .count) in
     (c .before .number .result ≡ numberOf (verdictOf draft)) × (c .with-settings .result ≡ withSettings (args .self) (writtenOf draft .settings))
 told c =
     let finish = c .before .before in

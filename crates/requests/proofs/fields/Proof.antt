@@ -1,0 +1,124 @@
+-- By cases on the command, each arm's calls against its line of the definition. Assumes nothing.
+use borrow.Author.Needs.{needs}
+use Rattle.requests.specs.Requests.{fieldsOf}
+use Rattle.requests.proofs.fields.Statement.{statement}
+use Rattle.requests.proofs.fields.Tie as tie
+
+enum-told : tie.Need-enum-told
+enum-told c = search needs
+
+byte-at-requires : tie.Need-byte-at-requires
+byte-at-requires c κs = search needs
+
+clear-requires : tie.Need-clear-requires
+clear-requires c κs = search needs
+
+enum-told-2 : tie.Need-enum-told-2
+enum-told-2 c = search needs
+
+high-first-at-requires : tie.Need-high-first-at-requires
+high-first-at-requires c κs = search needs
+
+byte-at-requires-2 : tie.Need-byte-at-requires-2
+byte-at-requires-2 c κs = search needs
+
+byte-at-requires-3 : tie.Need-byte-at-requires-3
+byte-at-requires-3 c κs = search needs
+
+block-requires : tie.Need-block-requires
+block-requires c κs = search needs
+
+enum-told-3 : tie.Need-enum-told-3
+enum-told-3 c = search needs
+
+high-first-at-requires-2 : tie.Need-high-first-at-requires-2
+high-first-at-requires-2 c κs = search needs
+
+byte-at-requires-4 : tie.Need-byte-at-requires-4
+byte-at-requires-4 c κs = search needs
+
+byte-at-requires-5 : tie.Need-byte-at-requires-5
+byte-at-requires-5 c κs = search needs
+
+byte-at-requires-6 : tie.Need-byte-at-requires-6
+byte-at-requires-6 c κs = search needs
+
+write-requires : tie.Need-write-requires
+write-requires c κs = search needs
+
+enum-known-command : tie.Need-enum-known-command
+enum-known-command c = search needs
+
+enum-told-4 : tie.Need-enum-told-4
+enum-told-4 c = search needs
+
+byte-at-requires-7 : tie.Need-byte-at-requires-7
+byte-at-requires-7 c κs = search needs
+
+byte-at-requires-8 : tie.Need-byte-at-requires-8
+byte-at-requires-8 c κs = search needs
+
+byte-at-requires-9 : tie.Need-byte-at-requires-9
+byte-at-requires-9 c κs = search needs
+
+settings-of-requires : tie.Need-settings-of-requires
+settings-of-requires c κs = search needs
+
+enum-told-5 : tie.Need-enum-told-5
+enum-told-5 c = search needs
+
+returns : tie.Need-returns
+unfolding fieldsOf
+returns c = rw (c .before .before .enum-told .given .1) cc
+
+returns-2 : tie.Need-returns-2
+unfolding fieldsOf
+returns-2 c = rw (c .before .before .before .before .enum-told2 .given .1) cc
+
+returns-3 : tie.Need-returns-3
+unfolding fieldsOf
+returns-3 c = rw (c .before .before .before .before .before .enum-told3 .given .1) cc
+
+returns-4 : tie.Need-returns-4
+unfolding fieldsOf
+returns-4 c = rw (c .before .command .given .1)
+
+returns-5 : tie.Need-returns-5
+unfolding fieldsOf
+returns-5 c = rw (c .before .before .before .before .enum-told4 .given .1) cc
+
+returns-6 : tie.Need-returns-6
+unfolding fieldsOf
+returns-6 c = rw (c .enum-told5 .given .1)
+
+pub fields-spec : {M : Type 1} → statement M
+fields-spec =
+    tie.close
+    (tie.spec
+    enum-told
+    byte-at-requires
+    clear-requires
+    enum-told-2
+    high-first-at-requires
+    byte-at-requires-2
+    byte-at-requires-3
+    block-requires
+    enum-told-3
+    high-first-at-requires-2
+    byte-at-requires-4
+    byte-at-requires-5
+    byte-at-requires-6
+    write-requires
+    enum-known-command
+    enum-told-4
+    byte-at-requires-7
+    byte-at-requires-8
+    byte-at-requires-9
+    settings-of-requires
+    enum-told-5
+    returns
+    returns-2
+    returns-3
+    returns-4
+    returns-5
+    returns-6)
