@@ -24,8 +24,7 @@ use Rattle.laws.specs.Fold.{gather}
 use Rattle.laws.specs.History.{never, since, each, headOr, sum, newest, ago, latest, waits}
 use Rattle.laws.proofs.Lists.{length-latest, sooner, timer, waited}
 use Rattle.cells.specs.Cells.{sumOf, lowestOf, highestOf}
-use Rattle.events.specs.declared.Event.{Event}
-use Rattle.events.specs.Events.{capacity, eventAt, noEvent, fourBytes, keptCount, newCount}
+use Rattle.events.specs.Events.{capacity, noEvent, keptCount, newCount}
 use Rattle.live.specs.Live.{exact, quotient}
 use Rattle.readings.specs.declared.Readings.{Readings}
 use Rattle.readings.specs.declared.Judged.the-variants.{Good, WrongCells, WrongCurrent, NoInternal, WrongPulses}
@@ -76,10 +75,6 @@ module _ {A : Type 0} (P : A → Type 0) where
     all-mapped : (f : B → A) → ((x : B) → P (f x)) → (xs : List B) → All P (map f xs)
     all-mapped f law [] = tt
     all-mapped f law (x ∷ xs) = (law x, all-mapped f law xs)
-
-    all-each : (f : B → List A) (xs : List B) → ((x : B) → All P (f x)) → All P (each f xs)
-    all-each f [] p = tt
-    all-each f (x ∷ xs) p = all-append (f x) (each f xs) (p x) (all-each f xs p)
 
     all-through : (Q : B → Type 0) (f : B → A) → ((x : B) → Q x → P (f x)) → (xs : List B) → All Q xs → All P (map f xs)
     all-through Q f law [] p = tt
@@ -314,21 +309,6 @@ wait-held held ms short =
         go true q = let g : m .settings .r332 ≤ 30 = p .0 in omega arith
         go false q = q
 
--- ---- events
-
--- three bytes hold its time
-abbrev pub Timed : Event → Type 0
-Timed e = fourBytes e ≡ e .time + 16777216 * (e .number)
-
-timed : (seconds number : ℕ) → Timed (eventAt seconds number)
-unfolding fourBytes
-timed seconds number = omega arith
-
-all-timed : (h : List Deed) → All Timed (recordedNow h)
-all-timed [] = tt
-all-timed (d ∷ h) =
-    all-each Timed _ (row d .ticks) (λ t. all-mapped Timed (eventAt (secondsAt (d ∷ h))) (timed (secondsAt (d ∷ h))) (numbersOf (latchedAt h) (latchedAt (d ∷ h)) (chargerAt h) (t .1 .charger)))
-
 -- ---- floats
 
 module _ (f : Format) (s : Bool) where
@@ -379,13 +359,12 @@ pub record Bounds (cells perKm : ℕ) (cs : List Call) (b : Board) : Type 0 wher
   -- the start numbers are kept: with a count of 4 to 16 the board stays usable
   pub count : b .pack .cells ≡ cells
   pub per-km : b .pack .«per_km» ≡ perKm
-  -- `min` of `keptCount` and `newCount`, the places of `latest`, and `% 2^24` of `fourBytes`
+  -- `min` of `keptCount` and `newCount`, and the places of `latest`
   pub kept-most : b .hire .events .kept ≤ capacity
   pub kept : keptCount (b .hire .events) ≡ b .hire .events .kept
   pub unsent-most : b .hire .events .unsent ≤ b .hire .events .kept
   pub unsent : newCount (b .hire .events) ≡ b .hire .events .unsent
   pub places : length (b .hire .events .list) ≡ capacity
-  pub times : All Timed (b .hire .events .list)
   -- the tests of `laterOf`, which takes tenths past 9 for the tenth tick: there are none; seconds are of 32 bits
   pub tenths : b .pack .clock .tenths ≤ 9
   pub seconds : b .pack .clock .seconds ≤ 4294967295
@@ -447,7 +426,6 @@ module _ (cells perKm : ℕ) (cs : List Call) where
         unsent-most = omega arith;
         unsent = omega arith;
         places = length-latest capacity noEvent (keptSince made);
-        times = all-latest Timed capacity noEvent (keptSince made) (timed 0 0) (all-each Timed recordedNow (since forgets made) all-timed);
         tenths = omega arith;
         seconds = omega arith;
         doc = wait-held (λ m. holds m .doc) (momentsAt made) short;

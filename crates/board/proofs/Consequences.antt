@@ -1,5 +1,7 @@
--- What the account says of the events that are kept and new, of distance, of settings that are read back and of the switches; and
--- that it so holds of the board after any calls. Assumes nothing.
+-- Demand 2, with it: an accepted write reads back until the next; a refused one changes nothing. While a condition is latched, each
+-- switch it names is off. So the account says, and of the events that are kept and new and of the distance; and so it holds of the
+-- board after any calls.
+-- Assumes nothing.
 use mathlib.Core.Path.{_≡_, refl, ap, _∙_, subst⁻¹}
 use mathlib.Core.Bool.{Bool, true, false, _&&_, _||_, not, cond, and-false, and-true}
 use mathlib.Core.List.{List, [], _∷_, map, reverse}

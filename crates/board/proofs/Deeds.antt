@@ -28,7 +28,7 @@ use Rattle.requests.specs.declared.Request.{Request}
 use Rattle.requests.specs.declared.Request.the-variants as request
 use Rattle.board.specs.State.{withSettings, withEvents, withStatistics}
 use Rattle.board.specs.Start.{newHire}
-use Rattle.board.specs.Tick.{readingsOf, laterOf, timeOf, speedAndDistanceOf, chargerOf, conditionsOf, conditionOf, conditionEventsOf, statusFor, statusOf, balancingOf, statisticsOf, switchesOf, tickedOf, tickNumber, tickOf}
+use Rattle.board.specs.Tick.{readingsOf, laterOf, timeOf, speedAndDistanceOf, chargerOf, conditionsOf, conditionsRecorded, conditionEventsOf, statusFor, statusOf, balancingOf, statisticsOf, switchesOf, tickedOf, tickNumber, tickOf}
 use Rattle.board.specs.Handover.{handedOver, handoverOf}
 use Rattle.requests.specs.Requests.{requestOf, draftedOf}
 use Rattle.board.specs.Frames.{marks, tooLong, payloadOf, requestBoard, frameBoard}
@@ -108,7 +108,7 @@ module _ (cells perKm : ℕ) where
         }
 
     done : tickedWith (guardOf (guardAt h) (settingsAt h) r (extremesOf given)) (laterOf (clockAt h)) ≡ tickedOf (boardAt cells perKm h) given r
-    unfolding boardAt tickedOf readingsOf timeOf speedAndDistanceOf chargerOf conditionsOf conditionOf conditionEventsOf statusOf balancingOf statisticsOf switchesOf
+    unfolding boardAt tickedOf readingsOf timeOf speedAndDistanceOf chargerOf conditionsOf conditionsRecorded conditionEventsOf statusOf balancingOf statisticsOf switchesOf
     done = refl
 
     pub ticked : 1 ≤ settingsAt h .r332 → tickedOf (boardAt cells perKm h) given r ≡ boardAt cells perKm (took given r ∷ h)

@@ -8,7 +8,7 @@ use lib.IntN.{ℤ, pos, negsuc}
 use lib.ListN.{replicate}
 use Rattle.laws.specs.Fold.{shifted, packed}
 use Rattle.events.specs.declared.Event.{Event}
-use Rattle.events.specs.Events.{eventAt, latest, keptOf, noEvents, addOf}
+use Rattle.events.specs.Events.{eventAt, numberOf as eventNumber, latest, keptOf, noEvents, addOf}
 use Rattle.guard.specs.declared.Conditions.{Conditions}
 use Rattle.guard.specs.Guard.{holdsOf, waitsOf, recoversOf, latchedOf, guardOf}
 use Rattle.guard.specs.Table.{is, chargeOff, dischargeOff, faulty, latchEvent, recoveryEvent, eventOf}
@@ -19,7 +19,7 @@ use Rattle.statistics.specs.Statistics as statistics
 use Rattle.board.specs.declared.Board.{Board}
 use Rattle.board.specs.declared.registers.Shown.the-variants.{Register}
 use Rattle.board.specs.Start.{newHire, startBoard, startOf}
-use Rattle.board.specs.Tick.{readingsOf, laterOf, timeOf, speedAndDistanceOf, chargerOf, conditionsOf, conditionOf, conditionEventsOf, statusFor, statusOf, balancingOf, statisticsOf, switchesOf, tickedOf, tickNumber, tickOf}
+use Rattle.board.specs.Tick.{readingsOf, laterOf, timeOf, speedAndDistanceOf, chargerOf, conditionsOf, conditionsRecorded, conditionEventsOf, statusFor, statusOf, balancingOf, statisticsOf, switchesOf, tickedOf, tickNumber, tickOf}
 use Rattle.board.specs.Registers.{liveRegister, shownAt}
 use Rattle.board.specs.Handover.{handedOver, handoverOf}
 
@@ -85,7 +85,7 @@ fresh = startOf 4 2000 .board
 
 -- the board after ticks; `unfolding after` opens all that a tick goes through
 pub after : Board → List Moment → Board
-unfolding tickOf tickNumber tickedOf readingsOf timeOf laterOf speedAndDistanceOf chargerOf conditionsOf conditionEventsOf conditionOf statusOf statusFor balancingOf statisticsOf switchesOf judgedOf numberOf guardOf holdsOf waitsOf recoversOf latchedOf is eventOf latchEvent recoveryEvent faulty chargeOff dischargeOff addOf shifted packed statistics.riddenOf statistics.countedOf statistics.countsOf
+unfolding tickOf tickNumber tickedOf readingsOf timeOf laterOf speedAndDistanceOf chargerOf conditionsOf conditionEventsOf conditionsRecorded statusOf statusFor balancingOf statisticsOf switchesOf judgedOf numberOf guardOf holdsOf waitsOf recoversOf latchedOf is eventOf latchEvent recoveryEvent faulty chargeOff dischargeOff addOf shifted packed statistics.riddenOf statistics.countedOf statistics.countsOf
 after b [] = b
 after b (m ∷ ms) = after (tickOf b (m .0) (m .1) .board) ms
 
@@ -99,7 +99,7 @@ kept b = keptOf (b .hire .events)
 
 pub recorded : Board → List ℕ
 unfolding kept
-recorded b = map (λ e. e .number) (kept b)
+recorded b = map eventNumber (kept b)
 
 -- ---- the facts
 

@@ -12,7 +12,7 @@ use Rattle.settings.specs.Settings as settings
 use Rattle.signed.specs.Signed as signed
 use Rattle.statistics.specs.Statistics as statistics
 use Rattle.board.specs.Start.{newHire, startBoard}
-use Rattle.board.specs.Tick.{readingsOf, laterOf, timeOf, speedAndDistanceOf, chargerOf, conditionsOf, conditionOf, conditionEventsOf, statusFor, statusOf, balancingOf, statisticsOf, switchesOf, tickedOf, tickNumber, tickOf}
+use Rattle.board.specs.Tick.{readingsOf, laterOf, timeOf, speedAndDistanceOf, chargerOf, conditionsOf, conditionsRecorded, conditionEventsOf, statusFor, statusOf, balancingOf, statisticsOf, switchesOf, tickedOf, tickNumber, tickOf}
 use Rattle.board.specs.Registers.{liveRegister, shownAt}
 use Rattle.board.specs.Handover.{handedOver, handoverOf}
 use Rattle.board.specs.Wire.{words, sealed, padded}
@@ -24,7 +24,7 @@ use Rattle.board.specs.Account.{settingsAt, secondsAt, clockAt, latchedA
 use Rattle.board.specs.Demands.{told, toldAll}
 
 unfoldable pub opened : Unit {0}
-unfolding shifted packed crc.crcOf crc.byteIn crc.times crc.shiftedOut events.fourBytes events.latest events.noEvents events.addOf events.sentOf holdsOf waitsOf recoversOf latchedOf guardOf is chargeOff dischargeOff faulty latchEvent recoveryEvent eventOf live.bitsOf live.speedBitsOf readings.judgedOf readings.numberOf settings.ofKind settings.registerOf settings.listed settings.withOf settings.noneBelow settings.inRange settings.ordered settings.judgedOf settings.numberOf settings.putOf settings.verdictOf settings.standingOf signed.bitsOf signed.fromBits signed.degreesOf statistics.distanceOf statistics.countsOf statistics.temperaturesShown statistics.riddenOf statistics.countedOf statistics.clearedAt statistics.registerOf newHire startBoard readingsOf laterOf timeOf speedAndDistanceOf chargerOf conditionsOf conditionOf conditionEventsOf statusFor statusOf balancingOf statisticsOf switchesOf tickedOf tickNumber tickOf liveRegister shownAt handedOver handoverOf words sealed padded expectedOf clearOf blockOf writeOf kindOf settingsOf fieldsOf askedOf requestOf valueAt bodyOf payloadOf commandOf marks draftedOf requestNumber requestBoard requestReply frameNumber frameBoard frameReply step afterIn answersIn
+unfolding shifted packed crc.crcOf crc.byteIn crc.times crc.shiftedOut events.latest events.noEvents events.addOf events.sentOf holdsOf waitsOf recoversOf latchedOf guardOf is chargeOff dischargeOff faulty latchEvent recoveryEvent eventOf live.bitsOf live.speedBitsOf readings.judgedOf readings.numberOf settings.ofKind settings.registerOf settings.listed settings.withOf settings.noneBelow settings.inRange settings.ordered settings.judgedOf settings.numberOf settings.putOf settings.verdictOf settings.standingOf signed.bitsOf signed.fromBits signed.degreesOf statistics.distanceOf statistics.countsOf statistics.temperaturesShown statistics.riddenOf statistics.countedOf statistics.clearedAt statistics.registerOf newHire startBoard readingsOf laterOf timeOf speedAndDistanceOf chargerOf conditionsOf conditionsRecorded conditionEventsOf statusFor statusOf balancingOf statisticsOf switchesOf tickedOf tickNumber tickOf liveRegister shownAt handedOver handoverOf words sealed padded expectedOf clearOf blockOf writeOf kindOf settingsOf fieldsOf askedOf requestOf valueAt bodyOf payloadOf commandOf marks draftedOf requestNumber requestBoard requestReply frameNumber frameBoard frameReply step afterIn answersIn
 opened = tt
 
 unfoldable pub accounted : Unit {0}

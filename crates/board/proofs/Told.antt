@@ -1,5 +1,6 @@
--- The board stepped call by call is the board that the history of its calls makes, and every answer is as the paper tells it:
--- the second demand. Assumes nothing.
+-- Demand 2. Every reply, register, event, switch and balancing bit is what document 01 works out: the board stepped call by call is
+-- the board that the history of its calls makes, and every answer is as the paper tells it.
+-- Assumes nothing.
 use mathlib.Core.Path.{_≡_, refl, ap, ap₂, _∙_}
 use mathlib.Core.List.{List, [], _∷_, reverseAux}
 use Prim.Native.Nat.{ℕ}

@@ -7,7 +7,7 @@ use Prim.Native.Nat.{ℕ, _+_, _-_, _*_}
 use lib.Dec.{eqb, ltb}
 use lib.ListN.{length}
 use Rattle.events.specs.declared.Event.{Event}
-use Rattle.events.specs.Events.{noEvents, sentOf, fourBytes, keptCount, newCount, keptOf, newOf, placed}
+use Rattle.events.specs.Events.{noEvents, sentOf, keptCount, newCount, keptOf, newOf, placed}
 use Rattle.settings.specs.declared.Settings.{Settings}
 use Rattle.settings.specs.declared.Draft.{Draft}
 use Rattle.settings.specs.Settings as settings
@@ -39,7 +39,7 @@ valueAt b at = valueOf (shownAt b at)
 
 -- events: lifetime seconds (4 bytes), then per event 3 time bytes and the event number. Oldest first
 abbrev pub eventLongs : ℕ → List Event → ℕ → ℕ
-eventLongs lifetime events k = cond (eqb k 0) lifetime (fourBytes (placed events (k - 1)))
+eventLongs lifetime events k = cond (eqb k 0) lifetime (placed events (k - 1) .bytes)
 
 -- NACK: AA 00 CMD ERROR; ACK: AA 01 CMD
 abbrev pub nackOf : ℕ → ℕ → List ℕ

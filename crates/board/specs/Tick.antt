@@ -11,6 +11,7 @@ use lib.Signed.{ltZ}
 use Rattle.laws.specs.Fold.{shifted}
 use Rattle.cells.specs.declared.Extremes.{Extremes}
 use Rattle.cells.specs.Cells.{keptOf, extremesOf, sumOf, decisionOf}
+use Rattle.events.specs.declared.Events.{Events}
 use Rattle.events.specs.Events.{addOf}
 use Rattle.guard.specs.declared.Conditions.{Conditions}
 use Rattle.guard.specs.declared.Condition.{Condition}
@@ -27,15 +28,15 @@ use Rattle.board.specs.declared.Answer.{Answer}
 use Rattle.board.specs.State.{usable, withGuard, withClock, withSensed, withWindow, withCharger, withEvents, withStatistics, withStatus, withDecision, withBalancing, withCharge, withDischarge}
 
 -- readings kept; pack volts and amps are built here
-unfoldable pub readingsOf : Board → List ℕ → Readings → Board
-readingsOf b cells r =
+unfoldable pub readingsOf : Board → List ℕ → Readings → Extremes → Board
+readingsOf b cells r e =
     withSensed b
     record {
       internal = r .internal;
       external1 = r .external1;
       external2 = r .external2;
       cells = keptOf cells;
-      extremes = extremesOf cells;
+      extremes = e;
       live = liveOf (sumOf cells) (r .current);
     }
 
@@ -53,25 +54,29 @@ unfoldable pub speedAndDistanceOf : Board → ℕ → Board
 speedAndDistanceOf b pulses = withStatistics (withWindow b (shifted (b .hire .window) pulses)) (riddenOf (b .hire .statistics) pulses)
 
 -- an event at this moment, where the number is not 0
-abbrev pub recordedOf : Board → ℕ → Board
-recordedOf b number = withEvents b (cond (eqb number 0) (b .hire .events) (addOf (b .hire .events) (b .pack .clock .seconds) number))
+abbrev pub recordedOf : Events → ℕ → ℕ → Events
+recordedOf events seconds number = cond (eqb number 0) events (addOf events seconds number)
 
 -- charger event 0x64 or 0x65 when presence differs from the tick before
 abbrev pub chargerEvent : Bool → Bool → ℕ
 chargerEvent before now = cond (Bool·beq before now) 0 (cond now 0x64 0x65)
 
 unfoldable pub chargerOf : Board → Bool → Board
-chargerOf b present = withCharger (recordedOf b (chargerEvent (b .hire .charger) present)) present
+chargerOf b present = withCharger (withEvents b (recordedOf (b .hire .events) (b .pack .clock .seconds) (chargerEvent (b .hire .charger) present))) present
 
 -- conditions in the table's order, each with its event at latching or at recovery
 unfoldable pub conditionsOf : Board → Readings → Extremes → Board
 conditionsOf b r e = withGuard b (guardOf (b .pack .guard) (b .pack .settings) r e)
 
-unfoldable pub conditionOf : Board → Conditions → Condition → Board
-conditionOf b before c = recordedOf b (eventOf before (b .pack .guard .latched) c)
+abbrev pub conditionRecorded : Events → ℕ → Conditions → Conditions → Condition → Events
+conditionRecorded events seconds before after c = recordedOf events seconds (eventOf before after c)
+
+unfoldable pub conditionsRecorded : Events → ℕ → Conditions → Conditions → Events
+conditionsRecorded events s l k =
+    conditionRecorded (conditionRecorded (conditionRecorded (conditionRecorded (conditionRecorded (conditionRecorded (conditionRecorded events s l k UV) s l k OV) s l k OT) s l k DOC) s l k COC) s l k ROC) s l k LT
 
 unfoldable pub conditionEventsOf : Board → Conditions → Board
-conditionEventsOf b l = conditionOf (conditionOf (conditionOf (conditionOf (conditionOf (conditionOf (conditionOf b l UV) l OV) l OT) l DOC) l COC) l ROC) l LT
+conditionEventsOf b before = withEvents b (conditionsRecorded (b .hire .events) (b .pack .clock .seconds) before (b .pack .guard .latched))
 
 -- 0x9B if any condition but LT is latched; else 0x91 (charger, above 800 mA), 0x96 (no charger, above 800 mA), 0x93 (below
 -- -800 mA), 0x97
@@ -115,7 +120,7 @@ tickedOf b cells r =
     (chargerOf
     (speedAndDistanceOf
     (timeOf
-    (readingsOf b cells r))
+    (readingsOf b cells r (extremesOf cells)))
     (r .pulses))
     (r .charger))
     r (extremesOf cells))

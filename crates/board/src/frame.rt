@@ -1,14 +1,15 @@
 // A frame: one whole request, answered into a lent buffer.
 ghost use mathlib.Core.Bool.{cond};
 ghost use mathlib.Core.Path.{_≡_};
-ghost use Prim.Native.Nat.{_+_, _*_, _≤_};
+ghost use Prim.Native.Nat.{_+_, _-_, _*_, _≤_};
+ghost use lib.Dec.{eqb};
 ghost use lib.ListN.{length};
-ghost use Rattle.board.specs.State.{withEvents, withStatistics, withSettings};
+ghost use Rattle.board.specs.State.{withEvents, withStatistics};
 ghost use Rattle.board.specs.Wire.{word16, words, sealed, Wrote, Filled};
-ghost use Rattle.requests.specs.Requests.{hasLength, highFirst, draftedOf};
-ghost use Rattle.board.specs.Frames.{valueAt, eventLongs, marks, clearedStatistics, Frames};
+ghost use Rattle.requests.specs.Requests.{highFirst};
+ghost use Rattle.board.specs.Frames.{valueAt, marks, clearedStatistics, Frames};
 ghost use Rattle.board.specs.Replies.{countOf, halfOf, temperatureAt, wordOf, lengthByte, replyOf, Answers};
-ghost use Rattle.events.specs.Events.{keptOf, newOf, sentOf};
+ghost use Rattle.events.specs.Events.{sentOf};
 use crate::Answer;
 use crate::Board;
 use crate::registers::Shown;
@@ -21,10 +22,10 @@ use crate::wire::put;
 use crate::wire::put_word;
 use crate::wire::seal;
 use crate::wire::zero_from;
+use events::Event;
 use events::Events;
 use requests::Query;
 use requests::Request;
-use settings::Settings;
 use statistics::Statistics;
 
 impl Board {
@@ -34,17 +35,11 @@ impl Board {
     {
         if !self.is_usable() {
             zero_from(reply, 0);
-            return Answer {
-                number: 21,
-                board: self,
-            };
+            return self.with_number(21);
         }
         if reply.len() < 259 {
             zero_from(reply, 0);
-            return Answer {
-                number: 1,
-                board: self,
-            };
+            return self.with_number(1);
         }
         let asked = requests::parsed(request);
         self.answer(request, asked, reply)
@@ -57,34 +52,23 @@ impl Board {
         match asked {
             Request::Foreign => {
                 zero_from(reply, 0);
-                Answer {
-                    number: 2,
-                    board: self,
-                }
+                self.with_number(2)
             }
             Request::Damaged(command) => {
                 nack(reply, command, 0x01);
-                Answer {
-                    number: 3,
-                    board: self,
-                }
+                self.with_number(3)
             }
             Request::Refused(command) => {
                 nack(reply, command, 0x00);
-                Answer {
-                    number: 4,
-                    board: self,
-                }
+                self.with_number(4)
             }
             Request::ClearEvents => {
                 ack(reply, 0x02);
-                let board = self.with_events(Events::none());
-                Answer { number: 0, board }
+                self.with_events(Events::none()).with_number(0)
             }
             Request::ClearStatistics => {
                 ack(reply, 0x02);
-                let board = self.clear_statistics();
-                Answer { number: 0, board }
+                self.clear_statistics().with_number(0)
             }
             Request::Write { from, count } => self.write(request, from, count, reply),
             Request::Read(query) => self.read(request, query, reply),
@@ -102,13 +86,13 @@ impl Board {
         let board = self.with_settings(written.settings);
         if number != 0 {
             nack(reply, 0x10, 0x00);
-            return Answer { number, board };
+            return board.with_number(number);
         }
         begin(reply, 0x10);
         put_word(reply, 2, true, 300 + (from as u16));
         put_word(reply, 4, true, count as u16);
         seal(reply, 6);
-        Answer { number, board }
+        board.with_number(number)
     }
 
     // A query is answered by its words; nothing changes but 0x11's mark.
@@ -119,14 +103,10 @@ impl Board {
         let count = self.count_of(query);
         if 127 < count {
             nack(reply, query.command(), 0x00);
-            return Answer {
-                number: 5,
-                board: self,
-            };
+            return self.with_number(5);
         }
         self.send(query, count, reply);
-        let board = self.marked(query);
-        Answer { number: 0, board }
+        self.marked(query).with_number(0)
     }
 
     fn send(self, query: Query, count: u16, reply: &mut [u8])
@@ -164,8 +144,14 @@ impl Board {
                 at,
                 count: _,
             } => self.value((at as u32) + (i as u32)),
-            Query::NewEvents => half(self.new_long(i / 2), i),
-            Query::AllEvents => half(self.kept_long(i / 2), i),
+            Query::NewEvents => {
+                let event = self.hire.events.new_at(one_less(i / 2));
+                half(long(self.pack.clock.seconds, event, i / 2), i)
+            }
+            Query::AllEvents => {
+                let event = self.hire.events.kept_at(one_less(i / 2));
+                half(long(self.pack.clock.seconds, event, i / 2), i)
+            }
             Query::Temperatures => self.temperature(i),
             Query::Cells => self.value(i as u32),
             Query::SettingsOf { kind, count: _ } => self.pack
@@ -206,24 +192,6 @@ impl Board {
         }
     }
 
-    fn new_long(self, k: u16) -> u32
-        ensures { λ r. ⌜ r ≡ eventLongs (self .pack .clock .seconds) (newOf (self .hire .events)) k ⌝ }
-    {
-        if k == 0 {
-            return self.pack.clock.seconds;
-        }
-        self.hire.events.new_at(k - 1).four_bytes()
-    }
-
-    fn kept_long(self, k: u16) -> u32
-        ensures { λ r. ⌜ r ≡ eventLongs (self .pack .clock .seconds) (keptOf (self .hire .events)) k ⌝ }
-    {
-        if k == 0 {
-            return self.pack.clock.seconds;
-        }
-        self.hire.events.kept_at(k - 1).four_bytes()
-    }
-
     fn temperature(self, i: u16) -> u16
         ensures { λ r. ⌜ r ≡ temperatureAt self i ⌝ }
     {
@@ -247,28 +215,7 @@ impl Board {
     fn clear_statistics(self) -> Board
         ensures { λ r. ⌜ r ≡ withStatistics self (clearedStatistics self) ⌝ }
     {
-        let pack = self.pack;
-        let mut hire = self.hire;
-        hire.statistics = Statistics::cleared_at(self.pack.clock.seconds);
-        Board { pack, hire }
-    }
-
-    fn with_events(self, events: Events) -> Board
-        ensures { λ r. ⌜ r ≡ withEvents self events ⌝ }
-    {
-        let pack = self.pack;
-        let mut hire = self.hire;
-        hire.events = events;
-        Board { pack, hire }
-    }
-
-    fn with_settings(self, settings: Settings) -> Board
-        ensures { λ r. ⌜ r ≡ withSettings self settings ⌝ }
-    {
-        let hire = self.hire;
-        let mut pack = self.pack;
-        pack.settings = settings;
-        Board { pack, hire }
+        self.with_statistics(Statistics::cleared_at(self.pack.clock.seconds))
     }
 }
 
@@ -282,6 +229,20 @@ fn put_length(reply: &mut [u8], has: bool, count: u16) -> usize
         return 3;
     }
     2
+}
+
+// The k-th number of four bytes: the lifetime, and then the events.
+fn long(lifetime: u32, event: Event, k: u16) -> u32
+    ensures { λ r. ⌜ r ≡ cond (eqb k 0) lifetime (event .bytes) ⌝ }
+{
+    if k == 0 { lifetime } else { event.bytes }
+}
+
+// The place of an event among the events, where the lifetime stands before them.
+fn one_less(k: u16) -> u16
+    ensures { λ r. ⌜ r ≡ k - 1 ⌝ }
+{
+    if k == 0 { 0 } else { k - 1 }
 }
 
 fn half(long: u32, i: u16) -> u16

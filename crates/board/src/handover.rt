@@ -11,16 +11,10 @@ impl Board {
         ensures { λ r. ⌜ r ≡ handoverOf self ⌝ }
     {
         if !self.is_usable() {
-            return Answer {
-                number: 21,
-                board: self,
-            };
+            return self.with_number(21);
         }
         let pack = self.pack;
         let hire = Hire::new(self.pack.clock.seconds);
-        Answer {
-            number: 0,
-            board: Board { pack, hire },
-        }
+        Board { pack, hire }.with_number(0)
     }
 }

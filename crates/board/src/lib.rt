@@ -8,7 +8,7 @@ mod wire;
 
 ghost use mathlib.Core.Bool.{cond};
 ghost use mathlib.Core.Path.{_≡_};
-ghost use Rattle.board.specs.State.{usable};
+ghost use Rattle.board.specs.State.{usable, withSettings, withEvents, withStatistics};
 ghost use Rattle.board.specs.Start.{newHire, startBoard, startOf};
 use cells::Extremes;
 use events::Events;
@@ -85,8 +85,46 @@ impl Board {
             },
             hire: Hire::new(0),
         };
-        let number = board.number();
-        Answer { number, board }
+        board.with_number(board.number())
+    }
+
+    // This board, and the number of the call that gives it back.
+    pub(crate) fn with_number(self, number: u8) -> Answer
+        ensures { λ r. ⌜ r ≡ record { number = number; board = self } ⌝ }
+    {
+        Answer {
+            number,
+            board: self,
+        }
+    }
+
+    // One part anew, and the rest as it was.
+
+    pub(crate) fn with_settings(self, settings: Settings) -> Board
+        ensures { λ r. ⌜ r ≡ withSettings self settings ⌝ }
+    {
+        let hire = self.hire;
+        let mut pack = self.pack;
+        pack.settings = settings;
+        Board { pack, hire }
+    }
+
+    pub(crate) fn with_events(self, events: Events) -> Board
+        ensures { λ r. ⌜ r ≡ withEvents self events ⌝ }
+    {
+        let pack = self.pack;
+        let mut hire = self.hire;
+        hire.events = events;
+        Board { pack, hire }
+    }
+
+    pub(crate) fn with_statistics(self, statistics: Statistics) -> Board
+        ensures { λ r. ⌜ r ≡ withStatistics self statistics ⌝ }
+    {
+        let pack = self.pack;
+        let mut hire = self.hire;
+        hire.statistics = statistics;
+        Board { pack, hire }
     }
 
     // 0 for a board that takes calls, 21 for one that is none.

@@ -4,7 +4,9 @@ ghost use Rattle.live.specs.Live.{speedOf, speedBitsOf};
 ghost use Rattle.events.specs.Events.{capacity, keptCount, newCount, keptOf, newOf, placed};
 ghost use Rattle.board.specs.Registers.{lowHalf, highHalf, liveRegister, shownAt};
 ghost use Prim.Native.Nat.{_≤_};
+ghost use lib.ListN.{getD};
 use crate::Board;
+use crate::Sensed;
 use events::Event;
 use live::Speed;
 
@@ -92,25 +94,22 @@ impl Board {
     fn live_register(self, at: u16) -> u16
         ensures { λ r. ⌜ r ≡ liveRegister self at ⌝ }
     {
-        let clock = self.pack.clock;
-        let hire = self.hire;
-        let sensed = hire.sensed;
         match at {
-            0..=15 => sensed.cells[at as usize],
-            32 => low_half(clock.seconds),
-            33 => high_half(clock.seconds),
-            36 => low_half(sensed.live.volts_bits()),
-            37 => high_half(sensed.live.volts_bits()),
-            38 => low_half(sensed.live.amps_bits()),
-            39 => high_half(sensed.live.amps_bits()),
-            40 => cells::millivolts(sensed.extremes.lowest),
-            41 => cells::millivolts(sensed.extremes.highest),
-            42 => signed::to_bits(sensed.external1),
-            43 => signed::to_bits(sensed.external2),
-            48 => signed::to_bits(sensed.internal),
-            50 => hire.status,
-            51 => hire.decision,
-            52 => hire.balancing,
+            0..=15 => self.hire.sensed.cell(at),
+            32 => low_half(self.pack.clock.seconds),
+            33 => high_half(self.pack.clock.seconds),
+            36 => low_half(self.hire.sensed.live.volts_bits()),
+            37 => high_half(self.hire.sensed.live.volts_bits()),
+            38 => low_half(self.hire.sensed.live.amps_bits()),
+            39 => high_half(self.hire.sensed.live.amps_bits()),
+            40 => cells::millivolts(self.hire.sensed.extremes.lowest),
+            41 => cells::millivolts(self.hire.sensed.extremes.highest),
+            42 => signed::to_bits(self.hire.sensed.external1),
+            43 => signed::to_bits(self.hire.sensed.external2),
+            48 => signed::to_bits(self.hire.sensed.internal),
+            50 => self.hire.status,
+            51 => self.hire.decision,
+            52 => self.hire.balancing,
             54 => low_half(self.speed_bits()),
             55 => high_half(self.speed_bits()),
             _ => 0,
@@ -123,6 +122,17 @@ impl Board {
     {
         let window = self.hire.window;
         Speed::over(window, self.pack.per_km).shown()
+    }
+}
+
+impl Sensed {
+    // Registers 0 to 15.
+    fn cell(self, at: u16) -> u16
+        requires { ⌜ at ≤ 15 ⌝ }
+        ensures { λ r. ⌜ r ≡ getD (self .cells) at 0 ⌝ }
+    {
+        let cells = self.cells;
+        cells[at as usize]
     }
 }
 

@@ -3,13 +3,14 @@ ghost use mathlib.Core.Path.{_≡_};
 ghost use mathlib.Core.Bool.{cond};
 ghost use lib.IntN.{pos, negsuc};
 ghost use lib.Signed.{ltZ};
-ghost use Rattle.board.specs.Tick.{readingsOf, laterOf, timeOf, speedAndDistanceOf, recordedOf, chargerEvent, chargerOf};
-ghost use Rattle.board.specs.Tick.{conditionsOf, conditionOf, conditionEventsOf, statusFor, statusOf, balancingOf, statisticsOf, switchesOf, tickedOf, tickOf};
+ghost use Rattle.board.specs.Tick.{readingsOf, laterOf, timeOf, speedAndDistanceOf, chargerEvent, chargerOf};
+ghost use Rattle.board.specs.Tick.{recordedOf, conditionsOf, conditionRecorded, conditionsRecorded, conditionEventsOf, statusFor, statusOf, balancingOf, statisticsOf, switchesOf, tickedOf, tickOf};
 use crate::Answer;
 use crate::Board;
 use crate::Clock;
 use crate::Sensed;
 use cells::Extremes;
+use events::Events;
 use guard::Condition;
 use guard::Conditions;
 use live::Live;
@@ -22,21 +23,14 @@ impl Board {
         ensures { λ r. ⌜ r ≡ tickOf self (now (cells .entry)) readings ⌝ }
     {
         if !self.is_usable() {
-            return Answer {
-                number: 21,
-                board: self,
-            };
+            return self.with_number(21);
         }
         let judged = readings.judged(self.pack.cells as usize, self.pack.per_km, cells.len());
         let number = judged.number();
         if number != 0 {
-            return Answer {
-                number,
-                board: self,
-            };
+            return self.with_number(number);
         }
-        let board = self.ticked(cells, readings);
-        Answer { number: 0, board }
+        self.ticked(cells, readings).with_number(0)
     }
 
     // An accepted tick: the steps in order.
@@ -46,7 +40,7 @@ impl Board {
         let latched = self.pack.guard.latched;
         let status = self.hire.status;
         let extremes = Extremes::of(cells);
-        self.keep_readings(cells, readings)
+        self.keep_readings(cells, readings, extremes)
             .pass_time()
             .ride(readings.pulses)
             .see_charger(readings.charger)
@@ -58,11 +52,10 @@ impl Board {
             .switch(readings)
     }
 
-    fn keep_readings(self, cells: &[u16], readings: Readings) -> Board
-        ensures { λ r. ⌜ r ≡ readingsOf self (now (cells .entry)) readings ⌝ }
+    fn keep_readings(self, cells: &[u16], readings: Readings, extremes: Extremes) -> Board
+        ensures { λ r. ⌜ r ≡ readingsOf self (now (cells .entry)) readings extremes ⌝ }
     {
         let kept = cells::kept(cells);
-        let extremes = Extremes::of(cells);
         let live = Live::measured(cells::sum(cells), readings.current);
         let sensed = Sensed {
             internal: readings.internal,
@@ -105,9 +98,12 @@ impl Board {
         ensures { λ r. ⌜ r ≡ chargerOf self present ⌝ }
     {
         let event = charger_event(self.hire.charger, present);
-        let mut board = self.record(event);
-        board.hire.charger = present;
-        board
+        let events = recorded(self.hire.events, self.pack.clock.seconds, event);
+        let pack = self.pack;
+        let mut hire = self.hire;
+        hire.events = events;
+        hire.charger = present;
+        Board { pack, hire }
     }
 
     fn guard_conditions(self, readings: Readings, extremes: Extremes) -> Board
@@ -124,19 +120,13 @@ impl Board {
     fn record_conditions(self, before: Conditions) -> Board
         ensures { λ r. ⌜ r ≡ conditionEventsOf self before ⌝ }
     {
-        self.record_condition(before, Condition::UV)
-            .record_condition(before, Condition::OV)
-            .record_condition(before, Condition::OT)
-            .record_condition(before, Condition::DOC)
-            .record_condition(before, Condition::COC)
-            .record_condition(before, Condition::ROC)
-            .record_condition(before, Condition::LT)
-    }
-
-    fn record_condition(self, before: Conditions, condition: Condition) -> Board
-        ensures { λ r. ⌜ r ≡ conditionOf self before condition ⌝ }
-    {
-        self.record(before.event(self.pack.guard.latched, condition))
+        let events = conditions_recorded(
+            self.hire.events,
+            self.pack.clock.seconds,
+            before,
+            self.pack.guard.latched,
+        );
+        self.with_events(events)
     }
 
     fn set_status(self, readings: Readings) -> Board
@@ -179,10 +169,7 @@ impl Board {
             self.pack.guard.latched,
             entered,
         );
-        let pack = self.pack;
-        let mut hire = self.hire;
-        hire.statistics = statistics;
-        Board { pack, hire }
+        self.with_statistics(statistics)
     }
 
     fn switch(self, readings: Readings) -> Board
@@ -196,20 +183,6 @@ impl Board {
         board.hire.charge = charge;
         board.hire.discharge = discharge;
         board
-    }
-
-    // An event at this moment; the number 0 records none.
-    fn record(self, number: u8) -> Board
-        ensures { λ r. ⌜ r ≡ recordedOf self number ⌝ }
-    {
-        if number == 0 {
-            return self;
-        }
-        let events = self.hire.events.add(self.pack.clock.seconds, number);
-        let pack = self.pack;
-        let mut hire = self.hire;
-        hire.events = events;
-        Board { pack, hire }
     }
 }
 
@@ -241,6 +214,46 @@ fn charger_event(before: bool, now: bool) -> u8
         return 0;
     }
     if now { 0x64 } else { 0x65 }
+}
+
+// The latches before and after the tick; in the table's order.
+fn conditions_recorded(
+    events: Events,
+    seconds: u32,
+    before: Conditions,
+    after: Conditions,
+) -> Events
+    ensures { λ r. ⌜ r ≡ conditionsRecorded events seconds before after ⌝ }
+{
+    let uv = condition_recorded(events, seconds, before, after, Condition::UV);
+    let ov = condition_recorded(uv, seconds, before, after, Condition::OV);
+    let ot = condition_recorded(ov, seconds, before, after, Condition::OT);
+    let doc = condition_recorded(ot, seconds, before, after, Condition::DOC);
+    let coc = condition_recorded(doc, seconds, before, after, Condition::COC);
+    let roc = condition_recorded(coc, seconds, before, after, Condition::ROC);
+    condition_recorded(roc, seconds, before, after, Condition::LT)
+}
+
+fn condition_recorded(
+    events: Events,
+    seconds: u32,
+    before: Conditions,
+    after: Conditions,
+    condition: Condition,
+) -> Events
+    ensures { λ r. ⌜ r ≡ conditionRecorded events seconds before after condition ⌝ }
+{
+    recorded(events, seconds, before.event(after, condition))
+}
+
+// The number 0 records none.
+fn recorded(events: Events, seconds: u32, number: u8) -> Events
+    ensures { λ r. ⌜ r ≡ recordedOf events seconds number ⌝ }
+{
+    if number == 0 {
+        return events;
+    }
+    events.add(seconds, number)
 }
 
 fn status_for(latched: Conditions, readings: Readings) -> u16

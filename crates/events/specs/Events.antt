@@ -1,7 +1,7 @@
 -- The event list keeps the latest 48, oldest first, and knows which of them an earlier 0x11 has not sent.
 -- Assumes nothing.
 use mathlib.Core.List.{List}
-use Prim.Native.Nat.{ℕ, _+_, _*_, _-_, _%_, min}
+use Prim.Native.Nat.{ℕ, _+_, _*_, _-_, _/_, _%_, min}
 use lib.ListN.{drop, getD, replicate}
 use Rattle.laws.specs.Fold.{shifted}
 use Rattle.events.specs.declared.Event.{Event}
@@ -11,17 +11,19 @@ use Rattle.events.specs.declared.Events.{Events}
 abbrev pub capacity : ℕ
 capacity = 48
 
--- event time is the seconds modulo 2^24
+-- 3 time bytes and the event number, as one number of 32 bits; event time is the seconds modulo 2^24
 abbrev pub eventAt : ℕ → ℕ → Event
-eventAt seconds number = record { time = seconds % 16777216; number = number }
+eventAt seconds number = record { bytes = seconds % 16777216 + 16777216 * number }
+
+abbrev pub timeOf : Event → ℕ
+timeOf e = e .bytes % 16777216
+
+abbrev pub numberOf : Event → ℕ
+numberOf e = e .bytes / 16777216
 
 -- what stands where no event is
 abbrev pub noEvent : Event
-noEvent = record { time = 0; number = 0 }
-
--- three time bytes and the event number, low byte first, as one number of 32 bits
-unfoldable pub fourBytes : Event → ℕ
-fourBytes e = e .time % 16777216 + 16777216 * (e .number)
+noEvent = record { bytes = 0 }
 
 -- the latest n of the places
 unfoldable pub latest : ℕ → Events → List Event

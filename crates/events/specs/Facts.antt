@@ -6,7 +6,7 @@ use Prim.Native.Nat.{ℕ, zero, suc}
 use lib.ListN.{length}
 use Rattle.laws.specs.Fold.{shifted}
 use Rattle.events.specs.declared.Events.{Events}
-use Rattle.events.specs.Events.{eventAt, fourBytes, latest, keptOf, newOf, noEvents, addOf, sentOf, placed}
+use Rattle.events.specs.Events.{eventAt, timeOf, numberOf, latest, keptOf, newOf, noEvents, addOf, sentOf, placed}
 
 -- n events, the k-th with the number k and k seconds
 events : ℕ → Events
@@ -24,6 +24,5 @@ unfolding events noEvents addOf sentOf latest shifted
 marked = (refl, refl)
 
 -- 2^24 + 1 seconds are 1; event 0x64 there is the bytes 01 00 00 64
-wrapped : fourBytes (eventAt 16777217 0x64) ≡ 0x64000001
-unfolding fourBytes
-wrapped = refl
+wrapped : (eventAt 16777217 0x64 .bytes ≡ 0x64000001) × (timeOf (eventAt 16777217 0x64) ≡ 1) × (numberOf (eventAt 16777217 0x64) ≡ 0x64)
+wrapped = (refl, refl, refl)

@@ -1,15 +1,14 @@
 // The events that the board keeps: the latest, oldest first, and which of them are new.
 ghost use mathlib.Core.Path.{_≡_};
 ghost use Prim.Native.Nat.{_+_, _≤_, min};
-ghost use Rattle.events.specs.Events.{capacity, fourBytes, keptCount, newCount, latest, keptOf, newOf, noEvents, addOf, sentOf, placed};
+ghost use Rattle.events.specs.Events.{capacity, eventAt, timeOf, numberOf, noEvent, keptCount, newCount, latest, keptOf, newOf, noEvents, addOf, sentOf, placed};
 
 // How many events are kept.
 pub const CAPACITY: usize = 48;
 
-// The time in seconds modulo 2^24, and the event's number.
+// As it is sent: three time bytes and the event's number, low byte first. All zeros where there is none.
 pub struct Event {
-    pub time: u32,
-    pub number: u8,
+    pub bytes: u32,
 }
 
 // The places that are used are the last ones: `kept` of them, of which the last `unsent` are new.
@@ -24,7 +23,7 @@ impl Events {
         ensures { λ r. ⌜ r ≡ noEvents ⌝ }
     {
         Events {
-            list: [Event { time: 0, number: 0 }; CAPACITY],
+            list: [Event { bytes: 0 }; CAPACITY],
             kept: 0,
             unsent: 0,
         }
@@ -40,10 +39,7 @@ impl Events {
             list[i] = list[i + 1];
             i += 1;
         }
-        list[CAPACITY - 1] = Event {
-            time: seconds % 16777216,
-            number,
-        };
+        list[CAPACITY - 1] = Event::at(seconds, number);
         let kept = one_more(self.kept);
         let unsent = one_more(self.unsent);
         Events { list, kept, unsent }
@@ -93,17 +89,31 @@ impl Events {
             let list = self.list;
             list[at]
         } else {
-            Event { time: 0, number: 0 }
+            Event { bytes: 0 }
         }
     }
 }
 
 impl Event {
-    // The three time bytes and the number, low byte first.
-    pub fn four_bytes(self) -> u32
-        ensures { λ r. ⌜ r ≡ fourBytes self ⌝ }
+    // In seconds modulo 2^24.
+    pub fn time(self) -> u32
+        ensures { λ r. ⌜ r ≡ timeOf self ⌝ }
     {
-        self.time % 16777216 + 16777216 * (self.number as u32)
+        self.bytes % 16777216
+    }
+
+    pub fn number(self) -> u8
+        ensures { λ r. ⌜ r ≡ numberOf self ⌝ }
+    {
+        (self.bytes / 16777216) as u8
+    }
+
+    fn at(seconds: u32, number: u8) -> Event
+        ensures { λ r. ⌜ r ≡ eventAt seconds number ⌝ }
+    {
+        Event {
+            bytes: seconds % 16777216 + 16777216 * (number as u32),
+        }
     }
 }
 

@@ -11,17 +11,26 @@ enum-told c = search needs
 zero-from-requires : tie.Need-zero-from-requires
 zero-from-requires c κs = search needs
 
+with-number-requires : tie.Need-with-number-requires
+with-number-requires c κs = search needs
+
 enum-known-asked : tie.Need-enum-known-asked
 enum-known-asked c = search needs
 
 nack-requires : tie.Need-nack-requires
 nack-requires c κs = search needs
 
+with-number-requires-2 : tie.Need-with-number-requires-2
+with-number-requires-2 c κs = search needs
+
 enum-known-asked-2 : tie.Need-enum-known-asked-2
 enum-known-asked-2 c = search needs
 
 nack-requires-2 : tie.Need-nack-requires-2
 nack-requires-2 c κs = search needs
+
+with-number-requires-3 : tie.Need-with-number-requires-3
+with-number-requires-3 c κs = search needs
 
 enum-told-2 : tie.Need-enum-told-2
 enum-told-2 c = search needs
@@ -35,6 +44,9 @@ none-requires c κs = search needs
 with-events-requires : tie.Need-with-events-requires
 with-events-requires c κs = search needs
 
+with-number-requires-4 : tie.Need-with-number-requires-4
+with-number-requires-4 c κs = search needs
+
 enum-told-3 : tie.Need-enum-told-3
 enum-told-3 c = search needs
 
@@ -43,6 +55,9 @@ ack-requires-2 c κs = search needs
 
 clear-statistics-requires : tie.Need-clear-statistics-requires
 clear-statistics-requires c κs = search needs
+
+with-number-requires-5 : tie.Need-with-number-requires-5
+with-number-requires-5 c κs = search needs
 
 enum-known-asked-3 : tie.Need-enum-known-asked-3
 enum-known-asked-3 c = search needs
@@ -62,8 +77,8 @@ same-length c = search needs
 returns : tie.Need-returns
 unfolding requestNumber requestBoard requestReply
 returns c =
-    let zero = c .before .before in
-    rw (zero .before .before .enum-told .given .1) (record { number = refl; board = refl; reply = zero .zero-from .ensures })
+    let zero = c .before .before .before in
+    rw (c .with-number .ensures, zero .before .before .enum-told .given .1) (record { number = refl; board = refl; reply = zero .zero-from .ensures })
 
 same-length-2 : tie.Need-same-length-2
 same-length-2 c = search needs
@@ -71,8 +86,8 @@ same-length-2 c = search needs
 returns-2 : tie.Need-returns-2
 unfolding requestNumber requestBoard requestReply
 returns-2 c =
-    let nack = c .before .before in
-    rw (nack .before .before .before .asked .given .1) (record { number = refl; board = refl; reply = nack .nack .ensures })
+    let nack = c .before .before .before in
+    rw (c .with-number2 .ensures, nack .before .before .before .asked .given .1) (record { number = refl; board = refl; reply = nack .nack .ensures })
 
 same-length-3 : tie.Need-same-length-3
 same-length-3 c = search needs
@@ -80,8 +95,8 @@ same-length-3 c = search needs
 returns-3 : tie.Need-returns-3
 unfolding requestNumber requestBoard requestReply
 returns-3 c =
-    let nack = c .before .before in
-    rw (nack .before .before .before .asked2 .given .1) (record { number = refl; board = refl; reply = nack .nack2 .ensures })
+    let nack = c .before .before .before in
+    rw (c .with-number3 .ensures, nack .before .before .before .asked2 .given .1) (record { number = refl; board = refl; reply = nack .nack2 .ensures })
 
 same-length-4 : tie.Need-same-length-4
 same-length-4 c = search needs
@@ -89,8 +104,9 @@ same-length-4 c = search needs
 returns-4 : tie.Need-returns-4
 unfolding requestNumber requestBoard requestReply
 returns-4 c =
-    let ack = c .before .before .before .before in
-    rw (ack .before .before .enum-told2 .given .1) (record { number = refl; board = rw (c .with-events .ensures, c .before .none .ensures); reply = ack .ack .ensures })
+    let cleared = c .before in
+    let ack = cleared .before .before .before .before in
+    rw (c .with-number4 .ensures, ack .before .before .enum-told2 .given .1) (record { number = refl; board = rw (cleared .with-events .ensures, cleared .before .none .ensures); reply = ack .ack .ensures })
 
 same-length-5 : tie.Need-same-length-5
 same-length-5 c = search needs
@@ -98,8 +114,9 @@ same-length-5 c = search needs
 returns-5 : tie.Need-returns-5
 unfolding requestNumber requestBoard requestReply
 returns-5 c =
-    let ack = c .before .before .before in
-    rw (ack .before .before .enum-told3 .given .1) (record { number = refl; board = c .clear-statistics .ensures; reply = ack .ack2 .ensures })
+    let cleared = c .before in
+    let ack = cleared .before .before .before in
+    rw (c .with-number5 .ensures, ack .before .before .enum-told3 .given .1) (record { number = refl; board = cleared .clear-statistics .ensures; reply = ack .ack2 .ensures })
 
 same-length-6 : tie.Need-same-length-6
 same-length-6 c = search needs
@@ -123,17 +140,22 @@ answer-spec =
     (tie.spec
     enum-told
     zero-from-requires
+    with-number-requires
     enum-known-asked
     nack-requires
+    with-number-requires-2
     enum-known-asked-2
     nack-requires-2
+    with-number-requires-3
     enum-told-2
     ack-requires
     none-requires
     with-events-requires
+    with-number-requires-4
     enum-told-3
     ack-requires-2
     clear-statistics-requires
+    with-number-requires-5
     enum-known-asked-3
     write-requires
     enum-known-asked-4

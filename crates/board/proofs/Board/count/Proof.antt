@@ -7,9 +7,12 @@ use Rattle.board.proofs.Board.count.Tie as tie
 counted-requires : tie.Need-counted-requires
 counted-requires c κs = search needs
 
+with-statistics-requires : tie.Need-with-statistics-requires
+with-statistics-requires c κs = search needs
+
 returns : tie.Need-returns
 unfolding statisticsOf
-returns c = rw (c .before .before .counted .ensures)
+returns c = rw (c .with-statistics .ensures, c .before .counted .ensures)
 
 pub count-spec : {M : Type 1} → statement M
-count-spec = tie.close (tie.spec counted-requires returns)
+count-spec = tie.close (tie.spec counted-requires with-statistics-requires returns)

@@ -18,20 +18,27 @@ is-usable-requires c κs = search needs
 zero-from-requires : tie.Need-zero-from-requires
 zero-from-requires c κs = search needs
 
+with-number-requires : tie.Need-with-number-requires
+with-number-requires c κs = search needs
+
 same-length : tie.Need-same-length
 same-length c = search needs
 
 returns : tie.Need-returns
 unfolding frameNumber frameBoard frameReply
 returns c =
-    let zero = c .before .before in
+    let zero = c .before .before .before in
     let then1 = zero .before .before in
     let usable = then1 .before .is-usable in
     let none = rw (usable .ensures) at (not-true (usable .result) (then1 .if1 .taken)) in
-    record { number = rw none; board = rw none; reply = rw none (zero .zero-from .ensures .filled) }
+    let told = c .with-number .ensures in
+    record { number = rw (told, none); board = rw (told, none); reply = rw none (zero .zero-from .ensures .filled) }
 
 zero-from-requires-2 : tie.Need-zero-from-requires-2
 zero-from-requires-2 c κs = search needs
+
+with-number-requires-2 : tie.Need-with-number-requires-2
+with-number-requires-2 c κs = search needs
 
 same-length-2 : tie.Need-same-length-2
 same-length-2 c = search needs
@@ -39,11 +46,12 @@ same-length-2 c = search needs
 returns-2 : tie.Need-returns-2
 unfolding frameNumber frameBoard frameReply
 returns-2 c =
-    let zero = c .before .before in
+    let zero = c .before .before .before in
     let then2 = zero .before .before in
     let some = good (then2 .before) in
     let small = lt-ltb _ 259 (then2 .if2 .taken) in
-    record { number = rw (some, small); board = rw (some, small); reply = rw (some, small) (zero .zero-from2 .ensures .filled) }
+    let told = c .with-number2 .ensures in
+    record { number = rw (told, some, small); board = rw (told, some, small); reply = rw (some, small) (zero .zero-from2 .ensures .filled) }
 
 parsed-requires : tie.Need-parsed-requires
 parsed-requires c κs = search needs
@@ -75,9 +83,11 @@ frame-spec =
     (tie.spec
     is-usable-requires
     zero-from-requires
+    with-number-requires
     same-length
     returns
     zero-from-requires-2
+    with-number-requires-2
     same-length-2
     returns-2
     parsed-requires

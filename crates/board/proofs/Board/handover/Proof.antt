@@ -16,15 +16,23 @@ handed b test e u = rw (sym e ∙ not-false test u)
 is-usable-requires : tie.Need-is-usable-requires
 is-usable-requires c κs = search needs
 
+with-number-requires : tie.Need-with-number-requires
+with-number-requires c κs = search needs
+
 returns : tie.Need-returns
 unfolding handoverOf
-returns c = rw (← c .before .is-usable .ensures, not-true (c .before .is-usable .result) (c .if1 .taken))
+returns c =
+    let usable = c .before .before .is-usable in
+    rw (c .with-number .ensures, ← usable .ensures, not-true (usable .result) (c .before .if1 .taken))
 
 new-requires : tie.Need-new-requires
 new-requires c κs = search needs
 
+with-number-requires-2 : tie.Need-with-number-requires-2
+with-number-requires-2 c κs = search needs
+
 returns-2 : tie.Need-returns-2
-returns-2 c = rw (c .new .ensures) (search (handed, needs))
+returns-2 c = rw (c .with-number2 .ensures, c .before .new .ensures) (search (handed, needs))
 
 pub handover-spec : {M : Type 1} → statement M
-handover-spec = tie.close (tie.spec is-usable-requires returns new-requires returns-2)
+handover-spec = tie.close (tie.spec is-usable-requires with-number-requires returns new-requires with-number-requires-2 returns-2)

@@ -9,9 +9,6 @@ use Rattle.board.proofs.Board.keep_readings.Tie as tie
 kept-requires : tie.Need-kept-requires
 kept-requires c κs = search needs
 
-of-requires : tie.Need-of-requires
-of-requires c κs = search needs
-
 sum-requires : tie.Need-sum-requires
 sum-requires c κs = search needs
 
@@ -25,11 +22,10 @@ returns c =
     let measured = told2 .before in
     let told = measured .before in
     let sum = told .before in
-    let r = sum .before .before .before .before .args .readings in
+    let r = sum .before .before .before .args .readings in
     let fits = told2 .struct-told2 .given .1 in
     rw (
-      sum .before .before .kept .ensures,
-      sum .before .of .ensures,
+      sum .before .kept .ensures,
       measured .measured .ensures,
       sum .sum .ensures .0,
       read w32 (r .current) (told .struct-told .given .0 .1),
@@ -40,4 +36,4 @@ returns c =
 
 pub keep-readings-spec : {M : Type 1} → statement M
 keep-readings-spec =
-    tie.close (tie.spec kept-requires of-requires sum-requires measured-requires returns)
+    tie.close (tie.spec kept-requires sum-requires measured-requires returns)

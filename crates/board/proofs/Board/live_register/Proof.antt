@@ -65,11 +65,8 @@ speed-bits-requires-2 c κs = search needs
 high-half-requires-4 : tie.Need-high-half-requires-4
 high-half-requires-4 c κs = search needs
 
-mul-result : tie.Need-mul-result
-mul-result c = search needs
-
-element-copy-out-result : tie.Need-element-copy-out-result
-element-copy-out-result c = search needs
+cell-requires : tie.Need-cell-requires
+cell-requires c κs = omega arith
 
 returns : tie.Need-returns
 unfolding liveRegister
@@ -81,19 +78,19 @@ returns-2 c = rw (c .before .match .keys2, c .high-half .ensures)
 
 returns-3 : tie.Need-returns-3
 unfolding liveRegister
-returns-3 c = rw (c .before .before .before .match .keys3, c .low-half2 .ensures, c .before .volts-bits .ensures)
+returns-3 c = rw (c .before .before .match .keys3, c .low-half2 .ensures, c .before .volts-bits .ensures)
 
 returns-4 : tie.Need-returns-4
 unfolding liveRegister
-returns-4 c = rw (c .before .before .before .match .keys4, c .high-half2 .ensures, c .before .volts-bits2 .ensures)
+returns-4 c = rw (c .before .before .match .keys4, c .high-half2 .ensures, c .before .volts-bits2 .ensures)
 
 returns-5 : tie.Need-returns-5
 unfolding liveRegister
-returns-5 c = rw (c .before .before .before .match .keys5, c .low-half3 .ensures, c .before .amps-bits .ensures)
+returns-5 c = rw (c .before .before .match .keys5, c .low-half3 .ensures, c .before .amps-bits .ensures)
 
 returns-6 : tie.Need-returns-6
 unfolding liveRegister
-returns-6 c = rw (c .before .before .before .match .keys6, c .high-half3 .ensures, c .before .amps-bits2 .ensures)
+returns-6 c = rw (c .before .before .match .keys6, c .high-half3 .ensures, c .before .amps-bits2 .ensures)
 
 returns-7 : tie.Need-returns-7
 unfolding liveRegister
@@ -105,15 +102,15 @@ returns-8 c = rw (c .before .match .keys8, c .millivolts2 .ensures)
 
 returns-9 : tie.Need-returns-9
 unfolding liveRegister
-returns-9 c = rw (c .before .before .match .keys9, c .to-bits .ensures, read w16 _ (c .before .struct-told .given .1 .0 .1))
+returns-9 c = rw (c .before .before .match .keys9, c .to-bits .ensures, read w16 _ (c .before .struct-told .given .1 .0 .1 .1 .0 .1 .1 .1 .0 .1))
 
 returns-10 : tie.Need-returns-10
 unfolding liveRegister
-returns-10 c = rw (c .before .before .match .keys10, c .to-bits2 .ensures, read w16 _ (c .before .struct-told2 .given .1 .1 .0 .1))
+returns-10 c = rw (c .before .before .match .keys10, c .to-bits2 .ensures, read w16 _ (c .before .struct-told2 .given .1 .0 .1 .1 .0 .1 .1 .1 .1 .0 .1))
 
 returns-11 : tie.Need-returns-11
 unfolding liveRegister
-returns-11 c = rw (c .before .before .match .keys11, c .to-bits3 .ensures, read w16 _ (c .before .struct-told3 .given .0 .1))
+returns-11 c = rw (c .before .before .match .keys11, c .to-bits3 .ensures, read w16 _ (c .before .struct-told3 .given .1 .0 .1 .1 .0 .1 .1 .0 .1))
 
 returns-12 : tie.Need-returns-12
 unfolding liveRegister
@@ -137,7 +134,7 @@ returns-16 c = rw (c .before .before .match .keys16, c .high-half4 .ensures, c .
 
 returns-17 : tie.Need-returns-17
 unfolding liveRegister
-returns-17 c = rw (le-leb (c .before .before .before .before .before .before .args .at) 15 (omega arith))
+returns-17 c = rw (le-leb (c .before .before .before .args .at) 15 (omega arith), c .cell .ensures)
 
 returns-18 : tie.Need-returns-18
 unfolding liveRegister
@@ -186,8 +183,7 @@ live-register-spec =
     low-half-requires-4
     speed-bits-requires-2
     high-half-requires-4
-    mul-result
-    element-copy-out-result
+    cell-requires
     returns
     returns-2
     returns-3

@@ -16,10 +16,16 @@ new-requires c κs = search needs
 number-requires : tie.Need-number-requires
 number-requires c κs = search needs
 
+with-number-requires : tie.Need-with-number-requires
+with-number-requires c κs = search needs
+
 returns : tie.Need-returns
 unfolding startBoard
-returns c = rw (c .number .ensures, c .before .new .ensures, c .before .before .none .ensures, c .before .before .before .factory .ensures)
+returns c =
+    let number = c .before in
+    let new = number .before in
+    rw (c .with-number .ensures, number .number .ensures, new .new .ensures, new .before .none .ensures, new .before .before .factory .ensures)
 
 pub start-spec : {M : Type 1} → statement M
 start-spec =
-    tie.close (tie.spec factory-requires none-requires new-requires number-requires returns)
+    tie.close (tie.spec factory-requires none-requires new-requires number-requires with-number-requires returns)

@@ -20,9 +20,14 @@ told c =
 is-usable-requires : tie.Need-is-usable-requires
 is-usable-requires c κs = search needs
 
+with-number-requires : tie.Need-with-number-requires
+with-number-requires c κs = search needs
+
 returns : tie.Need-returns
 unfolding tickOf tickNumber
-returns c = rw (← c .before .is-usable .ensures, not-true (c .before .is-usable .result) (c .if1 .taken))
+returns c =
+    let usable = c .before .before .is-usable in
+    rw (c .with-number .ensures, ← usable .ensures, not-true (usable .result) (c .before .if1 .taken))
 
 cast-judged : tie.Need-cast-judged
 cast-judged c = search needs
@@ -33,26 +38,37 @@ judged-requires c κs = search needs
 number-requires : tie.Need-number-requires
 number-requires c κs = search needs
 
+with-number-requires-2 : tie.Need-with-number-requires-2
+with-number-requires-2 c κs = search needs
+
 returns-2 : tie.Need-returns-2
 unfolding tickOf
-returns-2 c = rw (told (c .before), ne-eqb _ _ (c .if2 .taken))
+returns-2 c = rw (c .with-number2 .ensures, told (c .before .before), ne-eqb _ _ (c .before .if2 .taken))
 
 ticked-requires : tie.Need-ticked-requires
 ticked-requires c κs = search needs
 
+with-number-requires-3 : tie.Need-with-number-requires-3
+with-number-requires-3 c κs = search needs
+
 returns-3 : tie.Need-returns-3
 unfolding tickOf
-returns-3 c = rw (told (c .before .before), c .before .if2 .left, c .ticked .ensures)
+returns-3 c =
+    let else2 = c .before .before in
+    rw (c .with-number3 .ensures, told (else2 .before), else2 .if2 .left, c .before .ticked .ensures)
 
 pub tick-spec : {M : Type 1} → statement M
 tick-spec =
     tie.close
     (tie.spec
     is-usable-requires
+    with-number-requires
     returns
     cast-judged
     judged-requires
     number-requires
+    with-number-requires-2
     returns-2
     ticked-requires
+    with-number-requires-3
     returns-3)

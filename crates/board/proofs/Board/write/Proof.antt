@@ -38,16 +38,19 @@ with-settings-requires c κs = search needs
 nack-requires : tie.Need-nack-requires
 nack-requires c κs = search needs
 
+with-number-requires : tie.Need-with-number-requires
+with-number-requires c κs = search needs
+
 same-length : tie.Need-same-length
 same-length c = search needs
 
 returns : tie.Need-returns
 unfolding requestNumber requestBoard requestReply
 returns c =
-    let nack = c .before .before in
+    let nack = c .before .before .before in
     let then1 = nack .before .before in
     let (number, board) = told (then1 .before) in
-    record { number = number; board = board; reply = rw (← number, ne-eqb _ _ (then1 .if1 .taken)) (nack .nack .ensures) }
+    record { number = rw (c .with-number .ensures) number; board = rw (c .with-number .ensures) board; reply = rw (← number, ne-eqb _ _ (then1 .if1 .taken)) (nack .nack .ensures) }
 
 begin-requires : tie.Need-begin-requires
 begin-requires c κs = search needs
@@ -64,21 +67,24 @@ put-word-requires-2 c κs = search needs
 seal-requires : tie.Need-seal-requires
 seal-requires c κs = search needs
 
+with-number-requires-2 : tie.Need-with-number-requires-2
+with-number-requires-2 c κs = search needs
+
 same-length-2 : tie.Need-same-length-2
 same-length-2 c = search needs
 
 returns-2 : tie.Need-returns-2
 unfolding requestNumber requestBoard requestReply
 returns-2 c =
-    let seal = c .before .before in
+    let seal = c .before .before .before in
     let second = seal .before .before .before .before in
     let first = second .before .before .before .before in
     let begin = first .before .before .before .before in
     let else1 = begin .before .before in
     let (number, board) = told (else1 .before) in
     record {
-      number = number;
-      board = board;
+      number = rw (c .with-number2 .ensures) number;
+      board = rw (c .with-number2 .ensures) board;
       reply = rw (← number, else1 .if1 .left) (reply (begin .begin .ensures) (join-at (first .put-word .ensures) (second .put-word2 .ensures) refl) (seal .seal .ensures) refl);
     }
 
@@ -92,6 +98,7 @@ write-spec =
     number-requires
     with-settings-requires
     nack-requires
+    with-number-requires
     same-length
     returns
     begin-requires
@@ -99,5 +106,6 @@ write-spec =
     put-word-requires
     put-word-requires-2
     seal-requires
+    with-number-requires-2
     same-length-2
     returns-2)

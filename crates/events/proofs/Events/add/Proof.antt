@@ -45,6 +45,9 @@ loop-less c = search needs
 loop-again : tie.Need-loop-again Inv-loop μ-loop
 loop-again c = let q = c .before .before .loop .inv in (omega arith, q .1, one-moved noEvent (q .2) (omega arith))
 
+at-requires : tie.Need-at-requires Inv-loop μ-loop
+at-requires c κs = search needs
+
 sub-list : tie.Need-sub-list Inv-loop μ-loop
 sub-list c = search needs
 
@@ -62,7 +65,12 @@ one-more-requires-2 c κs = search needs
 
 returns : tie.Need-returns Inv-loop μ-loop
 unfolding addOf
-returns c = let at = c .before .before .before in let start = at .before .before in let moved = all-moved (capacity - 1) noEvent (eventAt (start .args .seconds) (start .args .number)) (at .loop .inv .2) (at .loop .inv .1) (omega arith) in rw (moved, c .before .one-more .ensures, c .one-more2 .ensures)
+returns c =
+    let new = c .before .before in
+    let ended = new .before .before in
+    let start = ended .before .before in
+    let moved = all-moved (capacity - 1) noEvent (eventAt (start .args .seconds) (start .args .number)) (ended .loop .inv .2) (ended .loop .inv .1) (omega arith) in
+    rw (new .at .ensures, moved, c .before .one-more .ensures, c .one-more2 .ensures)
 
 pub add-spec : {M : Type 1} → statement M
 add-spec =
@@ -80,6 +88,7 @@ add-spec =
     add-i
     loop-less
     loop-again
+    at-requires
     sub-list
     mul-list-3
     array-set-from-list-2
