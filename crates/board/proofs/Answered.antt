@@ -1,16 +1,15 @@
 -- Demand 1. Any bytes, readings or settings may arrive; each call answers and ends. Bad input gets its number, changes no state, and
 -- leaves the named NACK or zeros. Nothing lent earlier survives past the end of a reply.
 -- Assumes nothing.
-use mathlib.Core.Path.{_≡_, refl, sym, ap, _∙_}
+use mathlib.Core.Path.{_≡_, refl, ap}
 use mathlib.Core.Bool.{Bool, true, false, _&&_, not, cond}
 use mathlib.Core.List.{List, [], _∷_, _++_}
 use Prim.Native.Nat.{ℕ, zero, suc, _+_, _*_, _-_, _≤_}
 use native.Mathlib.Nat.{sub-zero, mul-suc}
 use native.Mathlib.Omega.{arith}
 use borrow.Author.Tests.{eqb-true, ltb-false}
-use lib.Dec.{eqb, leb, ltb}
-use lib.ListN.{length, take, getD, replicate, length-append, length-replicate}
-use Rattle.crc.specs.Crc.{crcOf}
+use lib.Dec.{eqb, ltb}
+use lib.ListN.{length, getD, replicate, length-append, length-replicate}
 use Rattle.events.specs.declared.Events.{Events}
 use Rattle.events.specs.Events.{sentOf, keptCount, newCount, keptOf, newOf}
 use Rattle.settings.specs.declared.Draft.{Draft}
@@ -20,20 +19,19 @@ use Rattle.settings.specs.Settings as settings
 use Rattle.board.specs.declared.Board.{Board}
 use Rattle.requests.specs.declared.Query.{Query}
 use Rattle.requests.specs.declared.Query.the-variants.{Registers, Live, NewEvents, AllEvents, Temperatures, Cells, SettingsOf}
-use Rattle.requests.specs.declared.Command.{Command}
-use Rattle.requests.specs.declared.Command.the-variants.{Clear, Block, Write, Ask, AskSettings, Unknown}
-use Rattle.requests.specs.declared.Expected.{Expected}
+use Rattle.requests.specs.declared.Command.the-variants.{Write}
 use Rattle.requests.specs.declared.Request.{Request}
 use Rattle.requests.specs.declared.Request.the-variants as request
 use Rattle.board.specs.State.{usable, withSettings, withEvents}
 use Rattle.board.specs.Tick.{tickOf, tickNumber, tickedOf}
 use Rattle.board.specs.Handover.{handoverOf, handedOver}
-use Rattle.requests.specs.Requests.{be16At, le16At, expect, expectedOf, inOneRange, between, clearOf, blockOf, writeOf, settingsOf, fieldsOf, askedOf, requestOf, commandOf, draftedOf}
+use Rattle.requests.specs.Requests.{requestOf, commandOf, draftedOf}
 use Rattle.board.specs.Wire.{le16, be16, le32, words, sealed, padded}
 use Rattle.board.specs.Frames.{valueAt, eventLongs, bodyOf, payloadOf, tooLong, marks, writtenTo, requestNumber, requestBoard, requestReply, frameNumber, frameBoard, frameReply, nackOf}
 use Rattle.board.specs.Calls.{Call, step, tick, frame, handover}
 use Rattle.board.specs.Behaviour.{board, afterIn}
 use Rattle.board.specs.Demands.{refusedBuffer, Leaves, Demand1}
+use Rattle.requests.proofs.Sound.{commandIn, sound}
 
 -- ---- a refused call leaves the board as it was
 
@@ -83,92 +81,6 @@ refused b handover h = go (usable b) h
     go : (u : Bool) → (_≡_ {A = ℕ} (cond u 0 21) 0 → ⊥) → cond u (handedOver b) b ≡ b
     go true h = absurd (h refl)
     go false h = refl
-
--- ---- a NACK names the second byte of the request
-
--- the command that a NACK of a request names, and the byte that stands for a command; c where there is none
-commandIn : ℕ → Request → ℕ
-commandIn c request.Foreign = c
-commandIn c (request.Damaged command) = command
-commandIn c (request.Refused command) = command
-commandIn c request.ClearEvents = c
-commandIn c request.ClearStatistics = c
-commandIn c (request.Write from n) = 0x10
-commandIn c (request.Read q) = commandOf q
-
-byteOf : ℕ → Command → ℕ
-byteOf c Clear = 0x02
-byteOf c Block = 0x03
-byteOf c Write = 0x10
-byteOf c (Ask q) = commandOf q
-byteOf c AskSettings = 0x1D
-byteOf c Unknown = c
-
-record Stands (c : ℕ) (e : Expected) : Type 0 where
-  stands : byteOf c (e .command) ≡ c
-
-byte : (k c : ℕ) (x : Expected) {y : Expected} → byteOf c (x .command) ≡ k → Stands c y → Stands c (cond (eqb c k) x y)
-byte k c x {y} p q = go (eqb c k) refl
-  where
-    go : (t : Bool) → eqb c k ≡ t → Stands c (cond t x y)
-    go true e = record { stands = p ∙ sym (eqb-true c k e) }
-    go false e = q
-
-expected : (c rl : ℕ) → Stands c (expectedOf c rl)
-unfolding expectedOf byteOf commandOf
-expected c rl =
-    byte 0x02 c (expect 5 Clear) refl
-    (byte 0x03 c (expect 8 Block) refl
-    (byte 0x10 c (expect (9 + 2 * rl) Write) refl
-    (byte 0x11 c (expect 4 (Ask NewEvents)) refl
-    (byte 0x12 c (expect 4 (Ask AllEvents)) refl
-    (byte 0x14 c (expect 4 (Ask (Live 0x14 36 2))) refl
-    (byte 0x15 c (expect 4 (Ask (Live 0x15 38 2))) refl
-    (byte 0x16 c (expect 4 (Ask (Live 0x16 41 1))) refl
-    (byte 0x17 c (expect 4 (Ask (Live 0x17 40 1))) refl
-    (byte 0x18 c (expect 4 (Ask (Live 0x18 50 1))) refl
-    (byte 0x19 c (expect 4 (Ask (Live 0x19 32 2))) refl
-    (byte 0x1B c (expect 4 (Ask Temperatures)) refl
-    (byte 0x1C c (expect 4 (Ask Cells)) refl
-    (byte 0x1D c (expect 7 AskSettings) refl
-    (record { stands = refl }))))))))))))))
-
-both : (c : ℕ) (t : Bool) (x y : Request) → commandIn c x ≡ c → commandIn c y ≡ c → commandIn c (cond t x y) ≡ c
-both c true x y p q = p
-both c false x y p q = q
-
-fields : (c : ℕ) (s : List ℕ) (k : Command) → byteOf c k ≡ c → commandIn c (fieldsOf k c s) ≡ c
-unfolding commandIn byteOf fieldsOf clearOf blockOf writeOf settingsOf commandOf
-fields c s Clear e = go (eqb (getD s 2 0) 1) (eqb (getD s 2 0) 2)
-  where
-    go : (t u : Bool) → commandIn c (cond t request.ClearEvents (cond u request.ClearStatistics (request.Refused 0x02))) ≡ c
-    go true u = refl
-    go false true = refl
-    go false false = e
-fields c s Block e = both c (eqb (getD s 4 0) 0 && between 1 127 (getD s 5 0) && inOneRange (be16At s 2) (getD s 5 0)) _ _ e e
-fields c s Write e =
-    both c (eqb (getD s 4 0) 0 && between 1 100 (getD s 5 0) && eqb (getD s 6 0) (2 * getD s 5 0) && leb 300 (be16At s 2) && leb (be16At s 2 + getD s 5 0) 400) _ _ e e
-fields c s (Ask q) e = e
-fields c s AskSettings e = both c (between 1 4 (getD s 2 0) && eqb (getD s 3 0) 0 && between 1 100 (getD s 4 0)) _ _ e e
-fields c s Unknown e = refl
-
-asked : (c : ℕ) (s : List ℕ) → commandIn c (askedOf c s) ≡ c
-unfolding askedOf commandIn
-asked c s =
-    both c (eqb (length s) (expectedOf c (getD s 5 0) .length)) _ (request.Refused c) (fields c s (expectedOf c (getD s 5 0) .command) (expected c (getD s 5 0) .stands)) refl
-
-named : (s : List ℕ) → commandIn (getD s 1 0) (requestOf s) ≡ getD s 1 0
-unfolding requestOf commandIn
-named s = go (ltb (length s) 4) (eqb (getD s 0 0) 0xAA) (eqb (crcOf (take (length s - 2) s)) (le16At s (length s - 2)))
-  where
-    c : ℕ
-    c = getD s 1 0
-
-    go : (t u v : Bool) → commandIn c (cond t request.Foreign (cond u (cond v (askedOf c s) (request.Damaged c)) request.Foreign)) ≡ c
-    go true u v = refl
-    go false true true = asked c s
-    go false true false = refl
-    go false false v = refl
 
 -- ---- what a refusal leaves of the buffer
 
@@ -266,7 +178,7 @@ leaves b (frame s room) = go (usable b) (ltb room 259) refl
     go true true e = (padded-length room [] (omega arith), λ h. no-bytes room)
     go true false e = (
       padded-length room _ (let h = ltb-false room 259 e in omega (arith, reply-length b s (requestOf s))),
-      request-leaves b s room (requestOf s) (named s),
+      request-leaves b s room (requestOf s) (sound s .named),
     )
     go false t e = (padded-length room [] (omega arith), λ h. no-bytes room)
 leaves b handover = refl

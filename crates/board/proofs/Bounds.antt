@@ -10,7 +10,7 @@ use mathlib.Core.List.{List, [], _∷_, _++_, map, reverse, reverseAux}
 use Prim.Native.Nat.{ℕ, zero, suc, _+_, _*_, _-_, _/_, _^_, _≤_, _<_, min, max}
 use native.Mathlib.Nat.{mul-pos, not-suc-le-zero}
 use native.Mathlib.Omega.{arith}
-use borrow.Author.Tests.{eqb-true, leb-true, ltb-true, ltb-false, ne-eqb, not-false}
+use borrow.Author.Tests.{eqb-true, leb-true, le-leb, lt-leb, ltb-true, ltb-false, ne-eqb, not-false}
 use lib.Dec.{eqb, leb, ltb}
 use lib.IntN.{ℤ, pos, negsuc}
 use lib.ListN.{length, take, length-append}
@@ -34,16 +34,22 @@ use Rattle.settings.specs.Settings as settings
 use Rattle.signed.specs.Signed.{above, below}
 use Rattle.statistics.specs.Statistics.{hundreds}
 use Rattle.board.specs.declared.Board.{Board}
+use Rattle.board.specs.declared.registers.Shown.{Shown}
+use Rattle.board.specs.declared.registers.Shown.the-variants.{Register, Nothing}
+use Rattle.board.specs.Registers.{shownAt}
+use Rattle.requests.specs.declared.Query.{Query}
 use Rattle.requests.specs.declared.Request.{Request}
 use Rattle.requests.specs.declared.Request.the-variants as request
+use Rattle.board.specs.State.{usableCount}
 use Rattle.board.specs.Start.{noSensed, startBoard}
-use Rattle.requests.specs.Requests.{requestOf, draftedOf}
+use Rattle.requests.specs.Requests.{inOneRange, requestOf, draftedOf}
 use Rattle.board.specs.Frames.{marks}
 use Rattle.board.specs.Calls.{Call, tick, frame, handover}
 use Rattle.board.specs.Behaviour.{afterIn, board}
 use Rattle.board.specs.Demands.{deeds}
-use Rattle.board.specs.Account.{Deed, took, wrote, sent, handed, nothing, row, forgets, hands, ticking, settingsAt, secondsAt, clockAt, Moment, momentOf, momentsAt, holds, waitOf, latchedAt, leftOf, waitsAt, sensedOf, sensedAt, windowAt, recordedNow, keptSince, newSince, eventsAt, numbersOf, chargerAt, boardAt, usableCount, requestDeed, deedOf, deedsOf}
+use Rattle.board.specs.Account.{Deed, took, wrote, sent, handed, nothing, row, forgets, hands, ticking, settingsAt, secondsAt, clockAt, Moment, momentOf, momentsAt, holds, waitOf, latchedAt, leftOf, waitsAt, sensedOf, sensedAt, windowAt, recordedNow, keptSince, newSince, eventsAt, boardAt, requestDeed, deedOf, deedsOf}
 use Rattle.board.proofs.Ranges.{Fits, ranges, wait-some}
+use Rattle.requests.proofs.Sound.{registersOf, readsInRange, sound}
 use Rattle.board.proofs.Told.{account}
 
 -- ---- laws of lists
@@ -447,3 +453,46 @@ module _ (cells perKm : ℕ) (cs : List Call) where
 
   pub bounds : Bounds cells perKm cs (afterIn board (startBoard cells perKm) cs)
   bounds = subst⁻¹ (Bounds cells perKm cs) (account cells perKm cs) made-bounds
+
+-- ---- the registers of a request: none is `Nothing`, and none is past the 65,535 of `value`
+
+abbrev pub shows : Shown → Bool
+shows (Register v) = true
+shows Nothing = false
+
+abbrev pub Shows : Board → ℕ → Type 0
+Shows b at = (shows (shownAt b at) ≡ true) × (at ≤ 65535)
+
+shown-in : (b : Board) (at n i : ℕ) → inOneRange at n ≡ true → i < n → Shows b (at + i)
+unfolding shownAt
+shown-in b at n i h l = go (leb (at + n) 56) (leb 100 at) (leb (at + n) 118) (leb 300 at) (leb (at + n) 400) refl refl refl refl refl h
+  where
+    live : leb (at + n) 56 ≡ true → Shows b (at + i)
+    live e = let p = leb-true (at + n) 56 e in (rw (le-leb (at + i) 55 (omega arith)), omega arith)
+
+    counted : leb 100 at ≡ true → leb (at + n) 118 ≡ true → Shows b (at + i)
+    counted e f =
+        let p = leb-true 100 at e in
+        let q = leb-true (at + n) 118 f in
+        (rw (lt-leb (at + i) 55 (omega arith), le-leb 100 (at + i) (omega arith), le-leb (at + i) 117 (omega arith)), omega arith)
+
+    set : leb 300 at ≡ true → leb (at + n) 400 ≡ true → Shows b (at + i)
+    set e f =
+        let p = leb-true 300 at e in
+        let q = leb-true (at + n) 400 f in
+        (rw (lt-leb (at + i) 55 (omega arith), le-leb 100 (at + i) (omega arith), lt-leb (at + i) 117 (omega arith), le-leb 300 (at + i) (omega arith), le-leb (at + i) 399 (omega arith)), omega arith)
+
+    go : (a c d f g : Bool) → leb (at + n) 56 ≡ a → leb 100 at ≡ c → leb (at + n) 118 ≡ d → leb 300 at ≡ f → leb (at + n) 400 ≡ g
+        → a || c && d || f && g ≡ true → Shows b (at + i)
+    go true c d f g e₁ e₂ e₃ e₄ e₅ k = live e₁
+    go false true true f g e₁ e₂ e₃ e₄ e₅ k = counted e₂ e₃
+    go false true false true true e₁ e₂ e₃ e₄ e₅ k = set e₄ e₅
+    go false false d true true e₁ e₂ e₃ e₄ e₅ k = set e₄ e₅
+    go false true false true false e₁ e₂ e₃ e₄ e₅ k = absurd (false≢true k)
+    go false true false false g e₁ e₂ e₃ e₄ e₅ k = absurd (false≢true k)
+    go false false d true false e₁ e₂ e₃ e₄ e₅ k = absurd (false≢true k)
+    go false false d false g e₁ e₂ e₃ e₄ e₅ k = absurd (false≢true k)
+
+pub registers-shown : (b : Board) (s : List ℕ) (q : Query) (i : ℕ) → requestOf s ≡ request.Read q → i < registersOf q .1 → Shows b (registersOf q .0 + i)
+unfolding readsInRange
+registers-shown b s q i e l = shown-in b (registersOf q .0) (registersOf q .1) i (rw e at (sound s .in-range)) l

@@ -26,14 +26,14 @@ use Rattle.requests.specs.declared.Query.{Query}
 use Rattle.requests.specs.declared.Query.the-variants.{Registers, Live, NewEvents, AllEvents, Temperatures, Cells, SettingsOf}
 use Rattle.requests.specs.declared.Request.{Request}
 use Rattle.requests.specs.declared.Request.the-variants as request
-use Rattle.board.specs.State.{withSettings, withEvents, withStatistics}
+use Rattle.board.specs.State.{usableCount, withSettings, withEvents, withStatistics}
 use Rattle.board.specs.Start.{newHire}
 use Rattle.board.specs.Tick.{readingsOf, laterOf, timeOf, speedAndDistanceOf, chargerOf, conditionsOf, conditionsRecorded, conditionEventsOf, statusFor, statusOf, balancingOf, statisticsOf, switchesOf, tickedOf, tickNumber, tickOf}
 use Rattle.board.specs.Handover.{handedOver, handoverOf}
 use Rattle.requests.specs.Requests.{requestOf, draftedOf}
 use Rattle.board.specs.Frames.{marks, tooLong, payloadOf, requestBoard, frameBoard}
 use Rattle.board.specs.Calls.{Call, tick, frame, handover, step}
-use Rattle.board.specs.Account.{Deed, took, wrote, cleared, forgot, sent, handed, nothing, sensedOf, settingsAt, secondsAt, clockAt, latchedAt, waitsAt, sensedAt, windowAt, chargerAt, statusAt, decisionAt, balancingAt, chargeAt, dischargeAt, eventsAt, statisticsAt, boardAt, usableCount, requestDeed, deedOf, deedsOf}
+use Rattle.board.specs.Account.{Deed, took, wrote, cleared, forgot, sent, handed, nothing, sensedOf, settingsAt, secondsAt, clockAt, latchedAt, waitsAt, sensedAt, windowAt, chargerAt, statusAt, decisionAt, balancingAt, chargeAt, dischargeAt, eventsAt, statisticsAt, boardAt, requestDeed, deedOf, deedsOf}
 use Rattle.board.proofs.Ranges.{written, ranges, wait-some}
 use Rattle.board.proofs.Parts.{guardAt, tickNoted, clock-next, guard-next, window-next, events-next, statistics-next}
 

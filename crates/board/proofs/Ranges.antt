@@ -18,9 +18,10 @@ use Rattle.signed.specs.Signed.{fromBits}
 use Rattle.requests.specs.declared.Request.{Request}
 use Rattle.requests.specs.declared.Request.the-variants as request
 use Rattle.requests.specs.Requests.{be16At, requestOf, draftedOf}
+use Rattle.board.specs.State.{usableCount}
 use Rattle.board.specs.Frames.{marks}
 use Rattle.board.specs.Calls.{Call, tick, frame, handover}
-use Rattle.board.specs.Account.{Deed, took, wrote, cleared, forgot, sent, handed, nothing, row, writing, covers, given, lastWritten, settingsAt, usableCount, requestDeed, deedOf, deedsOf}
+use Rattle.board.specs.Account.{Deed, took, wrote, cleared, forgot, sent, handed, nothing, row, writing, covers, given, lastWritten, settingsAt, requestDeed, deedOf, deedsOf}
 
 -- a register that is put one by one, as a write covers it
 module _ {R : Type 0} (field : Settings → R) (register : ℕ) (value : ℕ → R)

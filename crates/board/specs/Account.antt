@@ -33,6 +33,7 @@ use Rattle.board.specs.declared.Sensed.{Sensed}
 use Rattle.board.specs.declared.Board.{Board}
 use Rattle.requests.specs.declared.Request.{Request}
 use Rattle.requests.specs.declared.Request.the-variants as request
+use Rattle.board.specs.State.{usableCount}
 use Rattle.board.specs.Start.{noSensed}
 use Rattle.board.specs.Tick.{chargerEvent, statusFor}
 use Rattle.requests.specs.Requests.{be16At, requestOf, draftedOf}
@@ -345,9 +346,6 @@ boardAt cells perKm h =
     }
 
 -- ---- which calls are done
-
-abbrev pub usableCount : ℕ → Bool
-usableCount cells = leb 4 cells && leb cells 16
 
 -- what a request that is answered does, where those settings stand
 unfoldable pub requestDeed : Settings → List ℕ → Request → Deed

@@ -10,14 +10,15 @@ use Rattle.guard.specs.declared.Guard.{Guard}
 use Rattle.settings.specs.declared.Settings.{Settings}
 use Rattle.statistics.specs.declared.Statistics.{Statistics}
 use Rattle.board.specs.declared.Clock.{Clock}
-use Rattle.board.specs.declared.Pack.{Pack}
 use Rattle.board.specs.declared.Sensed.{Sensed}
-use Rattle.board.specs.declared.Hire.{Hire}
 use Rattle.board.specs.declared.Board.{Board}
 
 -- a cell count outside 4 to 16 gives no usable board
+abbrev pub usableCount : ℕ → Bool
+usableCount cells = leb 4 cells && leb cells 16
+
 abbrev pub usable : Board → Bool
-usable b = leb 4 (b .pack .cells) && leb (b .pack .cells) 16
+usable b = usableCount (b .pack .cells)
 
 abbrev pub withSettings : Board → Settings → Board
 withSettings b x =

@@ -27,7 +27,7 @@ use Rattle.board.specs.declared.Board.{Board}
 use Rattle.board.specs.declared.Answer.{Answer}
 use Rattle.board.specs.State.{usable, withGuard, withClock, withSensed, withWindow, withCharger, withEvents, withStatistics, withStatus, withDecision, withBalancing, withCharge, withDischarge}
 
--- readings kept; pack volts and amps are built here
+-- readings kept, with their lowest and highest cell; pack volts and amps are built here
 unfoldable pub readingsOf : Board → List ℕ → Readings → Extremes → Board
 readingsOf b cells r e =
     withSensed b
@@ -68,15 +68,17 @@ chargerOf b present = withCharger (withEvents b (recordedOf (b .hire .events) (b
 unfoldable pub conditionsOf : Board → Readings → Extremes → Board
 conditionsOf b r e = withGuard b (guardOf (b .pack .guard) (b .pack .settings) r e)
 
-abbrev pub conditionRecorded : Events → ℕ → Conditions → Conditions → Condition → Events
-conditionRecorded events seconds before after c = recordedOf events seconds (eventOf before after c)
+-- of one condition, and of all in the table's order, where the latches were `before` and are `after`
+module _ (seconds : ℕ) (before after : Conditions) where
+  abbrev pub conditionRecorded : Events → Condition → Events
+  conditionRecorded events c = recordedOf events seconds (eventOf before after c)
 
-unfoldable pub conditionsRecorded : Events → ℕ → Conditions → Conditions → Events
-conditionsRecorded events s l k =
-    conditionRecorded (conditionRecorded (conditionRecorded (conditionRecorded (conditionRecorded (conditionRecorded (conditionRecorded events s l k UV) s l k OV) s l k OT) s l k DOC) s l k COC) s l k ROC) s l k LT
+  unfoldable pub conditionsRecorded : Events → Events
+  conditionsRecorded events =
+      conditionRecorded (conditionRecorded (conditionRecorded (conditionRecorded (conditionRecorded (conditionRecorded (conditionRecorded events UV) OV) OT) DOC) COC) ROC) LT
 
 unfoldable pub conditionEventsOf : Board → Conditions → Board
-conditionEventsOf b before = withEvents b (conditionsRecorded (b .hire .events) (b .pack .clock .seconds) before (b .pack .guard .latched))
+conditionEventsOf b before = withEvents b (conditionsRecorded (b .pack .clock .seconds) before (b .pack .guard .latched) (b .hire .events))
 
 -- 0x9B if any condition but LT is latched; else 0x91 (charger, above 800 mA), 0x96 (no charger, above 800 mA), 0x93 (below
 -- -800 mA), 0x97

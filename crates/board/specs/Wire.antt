@@ -3,8 +3,8 @@
 use mathlib.Core.Bool.{Bool, cond}
 use mathlib.Core.List.{List, [], _∷_, _++_}
 use mathlib.Core.Path.{_≡_}
-use Prim.Native.Nat.{ℕ, zero, suc, _+_, _-_, _*_, _/_, _%_}
-use lib.ListN.{length, take, getD, replicate}
+use Prim.Native.Nat.{ℕ, zero, suc, _+_, _-_, _/_, _%_}
+use lib.ListN.{length, take, replicate}
 use Rattle.crc.specs.Crc.{crcOf}
 
 -- sixteen bits, low byte first; and high byte first, as 0x03 and 0x10 have them

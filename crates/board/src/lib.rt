@@ -9,7 +9,7 @@ mod wire;
 ghost use mathlib.Core.Bool.{cond};
 ghost use mathlib.Core.Path.{_≡_};
 ghost use Rattle.board.specs.State.{usable, withSettings, withEvents, withStatistics};
-ghost use Rattle.board.specs.Start.{newHire, startBoard, startOf};
+ghost use Rattle.board.specs.Start.{newHire, startOf};
 use cells::Extremes;
 use events::Events;
 use guard::Guard;

@@ -223,7 +223,7 @@ fn conditions_recorded(
     before: Conditions,
     after: Conditions,
 ) -> Events
-    ensures { λ r. ⌜ r ≡ conditionsRecorded events seconds before after ⌝ }
+    ensures { λ r. ⌜ r ≡ conditionsRecorded seconds before after events ⌝ }
 {
     let uv = condition_recorded(events, seconds, before, after, Condition::UV);
     let ov = condition_recorded(uv, seconds, before, after, Condition::OV);
@@ -241,7 +241,7 @@ fn condition_recorded(
     after: Conditions,
     condition: Condition,
 ) -> Events
-    ensures { λ r. ⌜ r ≡ conditionRecorded events seconds before after condition ⌝ }
+    ensures { λ r. ⌜ r ≡ conditionRecorded seconds before after events condition ⌝ }
 {
     recorded(events, seconds, before.event(after, condition))
 }

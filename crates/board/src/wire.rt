@@ -3,7 +3,7 @@
 ghost use mathlib.Core.List.{[], _∷_};
 ghost use Prim.Native.Nat.{_+_, _≤_, _<_};
 ghost use lib.ListN.{length, take};
-ghost use Rattle.board.specs.Wire.{le16, be16, word16, sealed, Wrote, Filled};
+ghost use Rattle.board.specs.Wire.{word16, sealed, Wrote, Filled};
 ghost use Rattle.board.specs.Frames.{nackOf, ackOf};
 
 // NACK, ACK: a whole reply.

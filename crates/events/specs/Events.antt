@@ -15,6 +15,7 @@ capacity = 48
 abbrev pub eventAt : ℕ → ℕ → Event
 eventAt seconds number = record { bytes = seconds % 16777216 + 16777216 * number }
 
+-- its time, and its number
 abbrev pub timeOf : Event → ℕ
 timeOf e = e .bytes % 16777216
 

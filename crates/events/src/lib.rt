@@ -1,7 +1,7 @@
 // The events that the board keeps: the latest, oldest first, and which of them are new.
 ghost use mathlib.Core.Path.{_≡_};
 ghost use Prim.Native.Nat.{_+_, _≤_, min};
-ghost use Rattle.events.specs.Events.{capacity, eventAt, timeOf, numberOf, noEvent, keptCount, newCount, latest, keptOf, newOf, noEvents, addOf, sentOf, placed};
+ghost use Rattle.events.specs.Events.{capacity, eventAt, timeOf, numberOf, keptCount, newCount, latest, keptOf, newOf, noEvents, addOf, sentOf, placed};
 
 // How many events are kept.
 pub const CAPACITY: usize = 48;

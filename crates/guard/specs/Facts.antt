@@ -3,7 +3,7 @@
 use mathlib.Core.Path.{_≡_, refl}
 use mathlib.Core.Bool.{true, false}
 use Prim.Native.Nat.{ℕ}
-use lib.IntN.{ℤ, pos, negsuc}
+use lib.IntN.{pos, negsuc}
 use Rattle.cells.specs.declared.Extremes.{Extremes}
 use Rattle.settings.specs.Settings.{factory}
 use Rattle.guard.specs.Guard.{cellTooHigh, cellsLowEnough, cold}

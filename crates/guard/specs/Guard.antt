@@ -1,10 +1,10 @@
 -- The seven conditions, in the order of document 01's table: what holds, what recovers, and what is latched after a tick.
 -- The cells enter by their lowest and highest: a cell is at most k exactly if the lowest is (crate `cells`, proofs/Some).
 -- Assumes nothing.
-use mathlib.Core.Bool.{Bool, true, false, _&&_, _||_, not, cond}
+use mathlib.Core.Bool.{Bool, false, _&&_, _||_, not, cond}
 use Prim.Native.Nat.{ℕ, _*_, _-_}
 use lib.Dec.{eqb, leb, ltb}
-use lib.IntN.{ℤ, pos, negsuc, negℤ, _+ℤ_, _-ℤ_, _*ℤ_}
+use lib.IntN.{ℤ, pos, negℤ, _+ℤ_, _-ℤ_, _*ℤ_}
 use lib.Signed.{leZ, ltZ}
 use Rattle.cells.specs.declared.Extremes.{Extremes}
 use Rattle.settings.specs.declared.Settings.{Settings}

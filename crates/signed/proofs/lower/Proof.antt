@@ -1,6 +1,5 @@
 -- The test compares the numbers themselves. Assumes nothing.
 use mir.Facts.{toZ-ofZ}
-use borrow.Author.Needs.{needs}
 use Rattle.signed.proofs.lower.Statement.{statement}
 use Rattle.signed.proofs.lower.Tie as tie
 

@@ -1,0 +1,158 @@
+-- What holds of a request whatever its bytes: the command that it is refused or answered with is its second byte, and the registers
+-- that it reads lie in one range. By the tests in the definition's order.
+-- Assumes nothing.
+use mathlib.Core.Path.{_≡_, refl, sym, _∙_}
+use mathlib.Core.Bool.{Bool, true, false, _&&_, cond, and-eq-true-iff}
+use mathlib.Core.List.{List}
+use Prim.Native.Nat.{ℕ, _+_, _-_, _*_}
+use borrow.Author.Tests.{eqb-true}
+use lib.Dec.{eqb, leb, ltb}
+use lib.ListN.{length, take, getD}
+use Rattle.crc.specs.Crc.{crcOf}
+use Rattle.requests.specs.declared.Query.{Query}
+use Rattle.requests.specs.declared.Query.the-variants.{Registers, Live, NewEvents, AllEvents, Temperatures, Cells, SettingsOf}
+use Rattle.requests.specs.declared.Command.{Command}
+use Rattle.requests.specs.declared.Command.the-variants.{Clear, Block, Write, Ask, AskSettings, Unknown}
+use Rattle.requests.specs.declared.Expected.{Expected}
+use Rattle.requests.specs.declared.Request.{Request}
+use Rattle.requests.specs.declared.Request.the-variants as request
+use Rattle.requests.specs.Requests.{be16At, le16At, expect, expectedOf, inOneRange, between, clearOf, blockOf, writeOf, settingsOf, fieldsOf, askedOf, requestOf, commandOf}
+
+-- the command that a request is refused or answered with; c where there is none
+unfoldable pub commandIn : ℕ → Request → ℕ
+commandIn c request.Foreign = c
+commandIn c (request.Damaged command) = command
+commandIn c (request.Refused command) = command
+commandIn c request.ClearEvents = c
+commandIn c request.ClearStatistics = c
+commandIn c (request.Write from n) = 0x10
+commandIn c (request.Read q) = commandOf q
+
+-- the registers that a query may name: the first, and how many; the cells are 0 to 15
+unfoldable pub registersOf : Query → ℕ × ℕ
+registersOf (Registers at n) = (at, n)
+registersOf (Live command at n) = (at, n)
+registersOf NewEvents = (0, 0)
+registersOf AllEvents = (0, 0)
+registersOf Temperatures = (0, 0)
+registersOf Cells = (0, 16)
+registersOf (SettingsOf kind n) = (0, 0)
+
+abbrev pub inRange : Query → Bool
+inRange q = inOneRange (registersOf q .0) (registersOf q .1)
+
+unfoldable pub readsInRange : Request → Bool
+readsInRange request.Foreign = true
+readsInRange (request.Damaged command) = true
+readsInRange (request.Refused command) = true
+readsInRange request.ClearEvents = true
+readsInRange request.ClearStatistics = true
+readsInRange (request.Write from n) = true
+readsInRange (request.Read q) = inRange q
+
+pub record Sound (c : ℕ) (q : Request) : Type 0 where
+  pub named : commandIn c q ≡ c
+  pub in-range : readsInRange q ≡ true
+
+-- ---- the command byte
+
+byteOf : ℕ → Command → ℕ
+byteOf c Clear = 0x02
+byteOf c Block = 0x03
+byteOf c Write = 0x10
+byteOf c (Ask q) = commandOf q
+byteOf c AskSettings = 0x1D
+byteOf c Unknown = c
+
+asksInRange : Command → Bool
+asksInRange Clear = true
+asksInRange Block = true
+asksInRange Write = true
+asksInRange (Ask q) = inRange q
+asksInRange AskSettings = true
+asksInRange Unknown = true
+
+record Stands (c : ℕ) (e : Expected) : Type 0 where
+  stands : byteOf c (e .command) ≡ c
+  in-range : asksInRange (e .command) ≡ true
+
+byte : (k c : ℕ) (x : Expected) {y : Expected} → byteOf c (x .command) ≡ k → asksInRange (x .command) ≡ true → Stands c y → Stands c (cond (eqb c k) x y)
+byte k c x {y} p r q = go (eqb c k) refl
+  where
+    go : (t : Bool) → eqb c k ≡ t → Stands c (cond t x y)
+    go true e = record { stands = p ∙ sym (eqb-true c k e); in-range = r }
+    go false e = q
+
+expected : (c rl : ℕ) → Stands c (expectedOf c rl)
+unfolding expectedOf byteOf asksInRange registersOf commandOf
+expected c rl =
+    byte 0x02 c (expect 5 Clear) refl refl
+    (byte 0x03 c (expect 8 Block) refl refl
+    (byte 0x10 c (expect (9 + 2 * rl) Write) refl refl
+    (byte 0x11 c (expect 4 (Ask NewEvents)) refl refl
+    (byte 0x12 c (expect 4 (Ask AllEvents)) refl refl
+    (byte 0x14 c (expect 4 (Ask (Live 0x14 36 2))) refl refl
+    (byte 0x15 c (expect 4 (Ask (Live 0x15 38 2))) refl refl
+    (byte 0x16 c (expect 4 (Ask (Live 0x16 41 1))) refl refl
+    (byte 0x17 c (expect 4 (Ask (Live 0x17 40 1))) refl refl
+    (byte 0x18 c (expect 4 (Ask (Live 0x18 50 1))) refl refl
+    (byte 0x19 c (expect 4 (Ask (Live 0x19 32 2))) refl refl
+    (byte 0x1B c (expect 4 (Ask Temperatures)) refl refl
+    (byte 0x1C c (expect 4 (Ask Cells)) refl refl
+    (byte 0x1D c (expect 7 AskSettings) refl refl
+    (record { stands = refl; in-range = refl }))))))))))))))
+
+-- ---- the fields
+
+both : (c : ℕ) (t : Bool) (x y : Request) → (t ≡ true → Sound c x) → Sound c y → Sound c (cond t x y)
+both c true x y p q = p refl
+both c false x y p q = q
+
+fields : (c : ℕ) (s : List ℕ) (k : Command) → byteOf c k ≡ c → asksInRange k ≡ true → Sound c (fieldsOf k c s)
+unfolding commandIn readsInRange registersOf byteOf asksInRange fieldsOf clearOf blockOf writeOf settingsOf commandOf
+fields c s Clear e r = go (eqb (getD s 2 0) 1) (eqb (getD s 2 0) 2)
+  where
+    go : (t u : Bool) → Sound c (cond t request.ClearEvents (cond u request.ClearStatistics (request.Refused 0x02)))
+    go true u = record { named = refl; in-range = refl }
+    go false true = record { named = refl; in-range = refl }
+    go false false = record { named = e; in-range = refl }
+fields c s Block e r =
+    both c (eqb (getD s 4 0) 0 && between 1 127 (getD s 5 0) && inOneRange (be16At s 2) (getD s 5 0)) _ _
+    (λ h. record { named = e; in-range = last h })
+    (record { named = e; in-range = refl })
+  where
+    last : eqb (getD s 4 0) 0 && between 1 127 (getD s 5 0) && inOneRange (be16At s 2) (getD s 5 0) ≡ true → inOneRange (be16At s 2) (getD s 5 0) ≡ true
+    last h = and-eq-true-iff (eqb (getD s 4 0) 0 && between 1 127 (getD s 5 0)) (inOneRange (be16At s 2) (getD s 5 0)) .0 h .1
+fields c s Write e r =
+    both c (eqb (getD s 4 0) 0 && between 1 100 (getD s 5 0) && eqb (getD s 6 0) (2 * getD s 5 0) && leb 300 (be16At s 2) && leb (be16At s 2 + getD s 5 0) 400) _ _
+    (λ h. record { named = e; in-range = refl })
+    (record { named = e; in-range = refl })
+fields c s (Ask q) e r = record { named = e; in-range = r }
+fields c s AskSettings e r =
+    both c (between 1 4 (getD s 2 0) && eqb (getD s 3 0) 0 && between 1 100 (getD s 4 0)) _ _
+    (λ h. record { named = e; in-range = refl })
+    (record { named = e; in-range = refl })
+fields c s Unknown e r = record { named = refl; in-range = refl }
+
+asked : (c : ℕ) (s : List ℕ) → Sound c (askedOf c s)
+unfolding askedOf commandIn readsInRange
+asked c s =
+    let k = expected c (getD s 5 0) in
+    both c (eqb (length s) (expectedOf c (getD s 5 0) .length)) _ (request.Refused c)
+    (λ h. fields c s (expectedOf c (getD s 5 0) .command) (k .stands) (k .in-range))
+    (record { named = refl; in-range = refl })
+
+-- ---- every request
+
+pub sound : (s : List ℕ) → Sound (getD s 1 0) (requestOf s)
+unfolding requestOf commandIn readsInRange
+sound s = go (ltb (length s) 4) (eqb (getD s 0 0) 0xAA) (eqb (crcOf (take (length s - 2) s)) (le16At s (length s - 2)))
+  where
+    c : ℕ
+    c = getD s 1 0
+
+    go : (t u v : Bool) → Sound c (cond t request.Foreign (cond u (cond v (askedOf c s) (request.Damaged c)) request.Foreign))
+    go true u v = record { named = refl; in-range = refl }
+    go false true true = asked c s
+    go false true false = record { named = refl; in-range = refl }
+    go false false v = record { named = refl; in-range = refl }
