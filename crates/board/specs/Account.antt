@@ -28,16 +28,15 @@ use Rattle.signed.specs.Signed.{above, below, lowerOf, higherOf, fromBits}
 use Rattle.statistics.specs.declared.Temperatures.{Temperatures}
 use Rattle.statistics.specs.declared.Statistics.{Statistics}
 use Rattle.statistics.specs.Statistics.{hundreds, distanceOf}
-use Rattle.board.specs.declared.Clock.{Clock}
-use Rattle.board.specs.declared.Sensed.{Sensed}
+use Rattle.pack.specs.declared.Clock.{Clock}
+use Rattle.hire.specs.declared.Sensed.{Sensed}
 use Rattle.board.specs.declared.Board.{Board}
 use Rattle.requests.specs.declared.Request.{Request}
 use Rattle.requests.specs.declared.Request.the-variants as request
-use Rattle.board.specs.State.{usableCount}
-use Rattle.board.specs.Start.{noSensed}
-use Rattle.board.specs.Tick.{chargerEvent, statusFor}
-use Rattle.requests.specs.Requests.{be16At, requestOf, draftedOf}
-use Rattle.board.specs.Frames.{marks}
+use Rattle.pack.specs.Pack.{usableCount}
+use Rattle.hire.specs.Hire.{noSensed}
+use Rattle.hire.specs.Tick.{chargerEvent, statusFor}
+use Rattle.requests.specs.Requests.{be16At, requestOf, marks, writtenTo}
 use Rattle.board.specs.Calls.{Call, tick, frame, handover}
 
 -- ---- deeds
@@ -349,12 +348,10 @@ boardAt cells perKm h =
 
 -- what a request that is answered does, where those settings stand
 unfoldable pub requestDeed : Settings → List ℕ → Request → Deed
-requestDeed st s request.Foreign = nothing
-requestDeed st s (request.Damaged command) = nothing
-requestDeed st s (request.Refused command) = nothing
+requestDeed st s (request.Refused refusal) = nothing
 requestDeed st s request.ClearEvents = forgot
 requestDeed st s request.ClearStatistics = cleared
-requestDeed st s (request.Write from n) = cond (eqb (settings.numberOf (settings.verdictOf (draftedOf (settings.draftOf st) s from n))) 0) (wrote s from n) nothing
+requestDeed st s (request.Write from n) = cond (eqb (settings.numberOf (writtenTo st s from n .verdict)) 0) (wrote s from n) nothing
 requestDeed st s (request.Read q) = cond (marks q) sent nothing
 
 -- what a call does after a history of deeds, on a board with those start numbers

@@ -12,8 +12,7 @@ use Rattle.cells.specs.Cells.{extremesOf}
 use Rattle.guard.specs.Quiet.{quiet}
 use Rattle.board.specs.Calls.{Call, Seen, tick, frame, handover, step}
 use Rattle.board.specs.Behaviour.{Behaviour, afterIn, answersIn}
-use Rattle.board.specs.Wire.{sealed, padded}
-use Rattle.board.specs.Frames.{nackOf}
+use Rattle.wire.specs.Wire.{sealed, padded, nackOf}
 use Rattle.board.specs.Account.{Deed, Moment, boardAt, deedsOf, settingsAt, clockAt, countAt, latchedAt, waitsAt, momentsAt}
 
 -- ---- Demand 1. Any bytes, readings or settings may arrive; each call answers and ends. Bad input gets its number, changes no
@@ -72,7 +71,7 @@ allQuiet [] = true
 allQuiet (m ∷ ms) = quiet (m .settings) (m .readings) (extremesOf (m .cells)) && allQuiet ms
 
 -- the last 300 accepted ticks are quiet, and there are so many. Other calls and refused ticks may come between, since only
--- accepted ticks are moments. Tried: 300 quiet ticks meet it (proofs/Stilled, quieted); with 299 the demand is refused
+-- accepted ticks are moments. Tried: 300 quiet ticks meet it (proofs/Demands/QuietTicks, quieted); with 299 the demand is refused
 abbrev pub Quieted : List Deed → Type 0
 Quieted h = (300 ≤ countAt h) × (allQuiet (take 300 (momentsAt h)) ≡ true)
 

@@ -1,30 +1,30 @@
 -- Frames: what the board answers to a request, and what a request changes (what it asks: crate `requests`).
 -- Assumes nothing.
-use mathlib.Core.Bool.{Bool, true, false, _&&_, not, cond}
+use mathlib.Core.Bool.{Bool, cond}
 use mathlib.Core.List.{List, [], _∷_, _++_}
 use mathlib.Core.Path.{_≡_}
-use Prim.Native.Nat.{ℕ, _+_, _-_, _*_}
+use Prim.Native.Nat.{ℕ, _+_, _*_}
 use lib.Dec.{eqb, ltb}
 use lib.ListN.{length}
-use Rattle.events.specs.declared.Event.{Event}
-use Rattle.events.specs.Events.{noEvents, sentOf, keptCount, newCount, keptOf, newOf, placed}
-use Rattle.settings.specs.declared.Draft.{Draft}
+use Rattle.events.specs.Events.{noEvents, sentOf, keptCount, newCount, keptOf, newOf, eventLongs}
+use Rattle.settings.specs.declared.Settings.{Settings}
 use Rattle.settings.specs.Settings as settings
 use Rattle.signed.specs.Signed as signed
-use Rattle.statistics.specs.declared.Statistics.{Statistics}
 use Rattle.statistics.specs.Statistics.{clearedAt}
 use Rattle.board.specs.declared.Board.{Board}
 use Rattle.board.specs.declared.Answer.{Answer}
-use Rattle.board.specs.declared.registers.Shown.{Shown}
-use Rattle.board.specs.declared.registers.Shown.the-variants.{Register, Nothing}
+use Rattle.board.specs.declared.Shown.{Shown}
+use Rattle.board.specs.declared.Shown.the-variants.{Register, Nothing}
 use Rattle.requests.specs.declared.Query.{Query}
 use Rattle.requests.specs.declared.Query.the-variants.{Registers, Live, NewEvents, AllEvents, Temperatures, Cells, SettingsOf}
+use Rattle.requests.specs.declared.Refusal.{Refusal}
+use Rattle.requests.specs.declared.Refusal.the-variants.{Foreign, Damaged, Against}
 use Rattle.requests.specs.declared.Request.{Request}
 use Rattle.requests.specs.declared.Request.the-variants as request
 use Rattle.board.specs.State.{usable, withSettings, withEvents, withStatistics}
 use Rattle.board.specs.Registers.{shownAt}
-use Rattle.requests.specs.Requests.{requestOf, commandOf, draftedOf}
-use Rattle.board.specs.Wire.{le16, be16, le32, words, sealed, padded}
+use Rattle.requests.specs.Requests.{requestOf, refusalNumber, commandOf, marks, writtenTo}
+use Rattle.wire.specs.Wire.{le16, be16, le32, words, sealed, padded, nackOf, ackOf}
 
 -- ---- what the board answers
 
@@ -35,17 +35,6 @@ valueOf Nothing = 0
 
 unfoldable pub valueAt : Board → ℕ → ℕ
 valueAt b at = valueOf (shownAt b at)
-
--- events: lifetime seconds (4 bytes), then per event 3 time bytes and the event number. Oldest first
-abbrev pub eventLongs : ℕ → List Event → ℕ → ℕ
-eventLongs lifetime events k = cond (eqb k 0) lifetime (placed events (k - 1) .bytes)
-
--- NACK: AA 00 CMD ERROR; ACK: AA 01 CMD
-abbrev pub nackOf : ℕ → ℕ → List ℕ
-nackOf command error = 0xAA ∷ 0x00 ∷ command ∷ error ∷ []
-
-abbrev pub ackOf : ℕ → List ℕ
-ackOf command = 0xAA ∷ 0x01 ∷ command ∷ []
 
 -- the bytes that answer a query, before the CRC. Except in 0x03 and 0x10, multi-byte data goes low byte first
 unfoldable pub bodyOf : Board → Query → List ℕ
@@ -74,54 +63,66 @@ payloadOf b (SettingsOf kind n) = 2 * n
 abbrev pub tooLong : Board → Query → Bool
 tooLong b q = ltb 254 (payloadOf b q)
 
--- 0x11 marks what it sends; 0x12 sends all kept and marks nothing
-unfoldable pub marks : Query → Bool
-marks (Registers at n) = false
-marks (Live command at n) = false
-marks NewEvents = true
-marks AllEvents = false
-marks Temperatures = false
-marks Cells = false
-marks (SettingsOf kind n) = false
-
--- the draft that a write makes of the settings in force
-abbrev pub writtenTo : Board → List ℕ → ℕ → ℕ → Draft
-writtenTo b s from n = draftedOf (settings.draftOf (b .pack .settings)) s from n
+-- a write to settings that stand is refused with the number of their judgement
+abbrev pub writeNumber : Settings → List ℕ → ℕ → ℕ → ℕ
+writeNumber st s from n = settings.numberOf (writtenTo st s from n .verdict)
 
 -- the number of a request, of bytes s, on a usable board with room for the reply
 unfoldable pub requestNumber : Board → List ℕ → Request → ℕ
-requestNumber b s request.Foreign = 2
-requestNumber b s (request.Damaged command) = 3
-requestNumber b s (request.Refused command) = 4
+requestNumber b s (request.Refused refusal) = refusalNumber refusal
 requestNumber b s request.ClearEvents = 0
 requestNumber b s request.ClearStatistics = 0
-requestNumber b s (request.Write from n) = settings.numberOf (settings.verdictOf (writtenTo b s from n))
+requestNumber b s (request.Write from n) = writeNumber (b .pack .settings) s from n
 requestNumber b s (request.Read q) = cond (tooLong b q) 5 0
 
--- statistics after a clear: everything at zero, but the lifetime at the clear
-abbrev pub clearedStatistics : Board → Statistics
-clearedStatistics b = clearedAt (b .pack .clock .seconds)
+-- 0x02: option 01 clears events; 02 clears statistics: everything at zero, but the lifetime at the clear
+abbrev pub clearedEvents : Board → Board
+clearedEvents b = withEvents b noEvents
 
--- the board after it: 0x02's clears, an accepted write and 0x11's mark are the only changes
+abbrev pub clearedStatistics : Board → Board
+clearedStatistics b = withStatistics b (clearedAt (b .pack .clock .seconds))
+
+-- 0x10 writes registers
+abbrev pub written : Board → List ℕ → ℕ → ℕ → Board
+written b s from n = withSettings b (writtenTo (b .pack .settings) s from n .settings)
+
+-- 0x11 marks what it sends
+abbrev pub markedBy : Board → Query → Board
+markedBy b q = withEvents b (cond (marks q) (sentOf (b .hire .events)) (b .hire .events))
+
+-- what an accepted request changes: these alone
+unfoldable pub changedBy : Board → List ℕ → Request → Board
+changedBy b s (request.Refused refusal) = b
+changedBy b s request.ClearEvents = clearedEvents b
+changedBy b s request.ClearStatistics = clearedStatistics b
+changedBy b s (request.Write from n) = written b s from n
+changedBy b s (request.Read q) = markedBy b q
+
+-- the board after it: a refused request leaves it unchanged
 unfoldable pub requestBoard : Board → List ℕ → Request → Board
-requestBoard b s request.Foreign = b
-requestBoard b s (request.Damaged command) = b
-requestBoard b s (request.Refused command) = b
-requestBoard b s request.ClearEvents = withEvents b noEvents
-requestBoard b s request.ClearStatistics = withStatistics b (clearedStatistics b)
-requestBoard b s (request.Write from n) = withSettings b (settings.writtenOf (writtenTo b s from n) .settings)
-requestBoard b s (request.Read q) = withEvents b (cond (marks q && not (tooLong b q)) (sentOf (b .hire .events)) (b .hire .events))
+requestBoard b s q = cond (eqb (requestNumber b s q) 0) (changedBy b s q) b
 
--- the whole reply before its zeros: none, a NACK with its error, an ACK, 0x10's address and RL, or the answer to a query
+-- the whole reply before its zeros to a refused request: none, or a NACK with its error
+unfoldable pub refusalReply : Refusal → List ℕ
+refusalReply Foreign = []
+refusalReply (Damaged command) = sealed (nackOf command 0x01)
+refusalReply (Against command) = sealed (nackOf command 0x00)
+
+-- to a write: 0x10's address and RL, or a NACK
+unfoldable pub writeReply : Settings → List ℕ → ℕ → ℕ → List ℕ
+writeReply st s from n = sealed (cond (eqb (writeNumber st s from n) 0) (0xAA ∷ 0x10 ∷ be16 (300 + from) ++ be16 n) (nackOf 0x10 0x00))
+
+-- to a query: its answer, or a NACK
+unfoldable pub queryReply : Board → Query → List ℕ
+queryReply b q = sealed (cond (tooLong b q) (nackOf (commandOf q) 0x00) (bodyOf b q))
+
+-- to any
 unfoldable pub requestReply : Board → List ℕ → Request → List ℕ
-requestReply b s request.Foreign = []
-requestReply b s (request.Damaged command) = sealed (nackOf command 0x01)
-requestReply b s (request.Refused command) = sealed (nackOf command 0x00)
+requestReply b s (request.Refused refusal) = refusalReply refusal
 requestReply b s request.ClearEvents = sealed (ackOf 0x02)
 requestReply b s request.ClearStatistics = sealed (ackOf 0x02)
-requestReply b s (request.Write from n) =
-    sealed (cond (eqb (settings.numberOf (settings.verdictOf (writtenTo b s from n))) 0) (0xAA ∷ 0x10 ∷ be16 (300 + from) ++ be16 n) (nackOf 0x10 0x00))
-requestReply b s (request.Read q) = sealed (cond (tooLong b q) (nackOf (commandOf q) 0x00) (bodyOf b q))
+requestReply b s (request.Write from n) = writeReply (b .pack .settings) s from n
+requestReply b s (request.Read q) = queryReply b q
 
 -- the lowest number that applies: 21 before all others, then 1, reply buffer under 259 bytes
 unfoldable pub frameNumber : Board → List ℕ → ℕ → ℕ

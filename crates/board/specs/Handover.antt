@@ -3,11 +3,12 @@
 -- tenths, latched conditions, waits. Nothing else may be kept.
 -- Assumes nothing.
 use mathlib.Core.Bool.{cond}
-use Rattle.board.specs.declared.Hire.{Hire}
+use Rattle.pack.specs.Pack.{startNumber}
+use Rattle.hire.specs.declared.Hire.{Hire}
+use Rattle.hire.specs.Hire.{newHire}
 use Rattle.board.specs.declared.Board.{Board}
 use Rattle.board.specs.declared.Answer.{Answer}
-use Rattle.board.specs.State.{usable}
-use Rattle.board.specs.Start.{newHire}
+use Rattle.board.specs.State.{usable, withHire}
 
 -- what went through a handover is a new hire
 abbrev pub handedHire : Board → Hire
@@ -15,8 +16,8 @@ handedHire b = newHire (b .pack .clock .seconds)
 
 -- the pack as it was, and a new hire
 unfoldable pub handedOver : Board → Board
-handedOver b = record { pack = b .pack; hire = handedHire b }
+handedOver b = withHire b (handedHire b)
 
 -- on a usable board handover never refuses
 unfoldable pub handoverOf : Board → Answer
-handoverOf b = record { number = cond (usable b) 0 21; board = cond (usable b) (handedOver b) b }
+handoverOf b = record { number = startNumber (b .pack); board = cond (usable b) (handedOver b) b }

@@ -3,7 +3,6 @@ pub mod Start
 pub mod Tick
 pub mod Registers
 pub mod Handover
-pub mod Wire
 pub mod Frames
 pub mod Replies
 pub mod Calls

@@ -1,7 +1,9 @@
 -- The event list keeps the latest 48, oldest first, and knows which of them an earlier 0x11 has not sent.
 -- Assumes nothing.
+use mathlib.Core.Bool.{cond}
 use mathlib.Core.List.{List}
 use Prim.Native.Nat.{ℕ, _+_, _*_, _-_, _/_, _%_, min}
+use lib.Dec.{eqb}
 use lib.ListN.{drop, getD, replicate}
 use Rattle.laws.specs.Fold.{shifted}
 use Rattle.events.specs.declared.Event.{Event}
@@ -64,3 +66,7 @@ sentOf e = record { list = e .list; kept = e .kept; unsent = 0 }
 -- one of a list of events by its place
 abbrev pub placed : List Event → ℕ → Event
 placed es n = getD es n noEvent
+
+-- what 0x11 and 0x12 send, in numbers of four bytes: lifetime seconds, then the events, oldest first
+abbrev pub eventLongs : ℕ → List Event → ℕ → ℕ
+eventLongs lifetime es k = cond (eqb k 0) lifetime (placed es (k - 1) .bytes)

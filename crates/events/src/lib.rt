@@ -1,7 +1,10 @@
 // The events that the board keeps: the latest, oldest first, and which of them are new.
+ghost use mathlib.Core.Bool.{cond};
 ghost use mathlib.Core.Path.{_≡_};
-ghost use Prim.Native.Nat.{_+_, _≤_, min};
-ghost use Rattle.events.specs.Events.{capacity, eventAt, timeOf, numberOf, keptCount, newCount, latest, keptOf, newOf, noEvents, addOf, sentOf, placed};
+ghost use Prim.Native.Nat.{_+_, _-_, _≤_, min};
+ghost use lib.Dec.{eqb};
+ghost use Rattle.events.specs.Events.{capacity, eventAt, timeOf, numberOf, keptCount, newCount, latest, keptOf, newOf, noEvents, addOf, sentOf, placed, eventLongs};
+ghost use Rattle.pairs.specs.Pairs.{halfAt};
 
 // How many events are kept.
 pub const CAPACITY: usize = 48;
@@ -81,6 +84,27 @@ impl Events {
         self.latest_at(self.new_count(), n)
     }
 
+    // The i-th word of what 0x11 sends: the lifetime, then the new events, two words each.
+    pub fn new_word(self, lifetime: u32, i: u16) -> u16
+        ensures { λ r. ⌜ r ≡ halfAt (eventLongs lifetime (newOf self)) i ⌝ }
+    {
+        self.word(self.new_count(), lifetime, i)
+    }
+
+    // The i-th word of what 0x12 sends: the lifetime, then all that are kept.
+    pub fn kept_word(self, lifetime: u32, i: u16) -> u16
+        ensures { λ r. ⌜ r ≡ halfAt (eventLongs lifetime (keptOf self)) i ⌝ }
+    {
+        self.word(self.kept_count(), lifetime, i)
+    }
+
+    fn word(self, count: u8, lifetime: u32, i: u16) -> u16
+        ensures { λ r. ⌜ r ≡ halfAt (eventLongs lifetime (latest count self)) i ⌝ }
+    {
+        let event = self.latest_at(count, one_less(i / 2));
+        pairs::half(long(lifetime, event, i / 2), i)
+    }
+
     fn latest_at(self, count: u8, n: u16) -> Event
         ensures { λ r. ⌜ r ≡ placed (latest count self) n ⌝ }
     {
@@ -117,6 +141,20 @@ impl Event {
     }
 }
 
+// The lifetime first, and then the event.
+fn long(lifetime: u32, event: Event, k: u16) -> u32
+    ensures { λ r. ⌜ r ≡ cond (eqb k 0) lifetime (event .bytes) ⌝ }
+{
+    if k == 0 { lifetime } else { event.bytes }
+}
+
+// The place of an event among the events, where the lifetime stands before them.
+fn one_less(k: u16) -> u16
+    ensures { λ r. ⌜ r ≡ k - 1 ⌝ }
+{
+    if k == 0 { 0 } else { k - 1 }
+}
+
 fn one_more(n: u8) -> u8
     ensures { λ r. ⌜ r ≡ min capacity (n + 1) ⌝ }
 {
@@ -135,7 +173,7 @@ fn lesser(a: u8, b: u8) -> u8
 
 // Where the latest `count` begin.
 fn from_end(count: u8) -> usize
-    ensures { λ r. ⌜ (r ≡ Prim.Native.Nat._-_ capacity count) × (r ≤ capacity) ⌝ }
+    ensures { λ r. ⌜ (r ≡ capacity - count) × (r ≤ capacity) ⌝ }
 {
     let count = count as usize;
     if count < CAPACITY {

@@ -14,15 +14,16 @@ use Rattle.requests.specs.declared.Query.the-variants.{Registers, Live, 
 use Rattle.requests.specs.declared.Command.{Command}
 use Rattle.requests.specs.declared.Command.the-variants.{Clear, Block, Write, Ask, AskSettings, Unknown}
 use Rattle.requests.specs.declared.Expected.{Expected}
+use Rattle.requests.specs.declared.Refusal.the-variants.{Foreign, Damaged, Against}
 use Rattle.requests.specs.declared.Request.{Request}
 use Rattle.requests.specs.declared.Request.the-variants as request
-use Rattle.requests.specs.Requests.{be16At, le16At, expect, expectedOf, inOneRange, between, clearOf, blockOf, writeOf, settingsOf, fieldsOf, askedOf, requestOf, commandOf}
+use Rattle.requests.specs.Requests.{be16At, le16At, expect, expectedOf, inOneRange, between, against, clearOf, blockOf, writeOf, settingsOf, fieldsOf, askedOf, requestOf, commandOf}
 
 -- the command that a request is refused or answered with; c where there is none
 unfoldable pub commandIn : ℕ → Request → ℕ
-commandIn c request.Foreign = c
-commandIn c (request.Damaged command) = command
-commandIn c (request.Refused command) = command
+commandIn c (request.Refused Foreign) = c
+commandIn c (request.Refused (Damaged command)) = command
+commandIn c (request.Refused (Against command)) = command
 commandIn c request.ClearEvents = c
 commandIn c request.ClearStatistics = c
 commandIn c (request.Write from n) = 0x10
@@ -42,9 +43,7 @@ abbrev pub inRange : Query → Bool
 inRange q = inOneRange (registersOf q .0) (registersOf q .1)
 
 unfoldable pub readsInRange : Request → Bool
-readsInRange request.Foreign = true
-readsInRange (request.Damaged command) = true
-readsInRange (request.Refused command) = true
+readsInRange (request.Refused refusal) = true
 readsInRange request.ClearEvents = true
 readsInRange request.ClearStatistics = true
 readsInRange (request.Write from n) = true
@@ -112,7 +111,7 @@ fields : (c : ℕ) (s : List ℕ) (k : Command) → byteOf c k ≡ c → asksInR
 unfolding commandIn readsInRange registersOf byteOf asksInRange fieldsOf clearOf blockOf writeOf settingsOf commandOf
 fields c s Clear e r = go (eqb (getD s 2 0) 1) (eqb (getD s 2 0) 2)
   where
-    go : (t u : Bool) → Sound c (cond t request.ClearEvents (cond u request.ClearStatistics (request.Refused 0x02)))
+    go : (t u : Bool) → Sound c (cond t request.ClearEvents (cond u request.ClearStatistics (against 0x02)))
     go true u = record { named = refl; in-range = refl }
     go false true = record { named = refl; in-range = refl }
     go false false = record { named = e; in-range = refl }
@@ -138,7 +137,7 @@ asked : (c : ℕ) (s : List ℕ) → Sound c (askedOf c s)
 unfolding askedOf commandIn readsInRange
 asked c s =
     let k = expected c (getD s 5 0) in
-    both c (eqb (length s) (expectedOf c (getD s 5 0) .length)) _ (request.Refused c)
+    both c (eqb (length s) (expectedOf c (getD s 5 0) .length)) _ (against c)
     (λ h. fields c s (expectedOf c (getD s 5 0) .command) (k .stands) (k .in-range))
     (record { named = refl; in-range = refl })
 
@@ -151,7 +150,7 @@ sound s = go (ltb (length s) 4) (eqb (getD s 0 0) 0xAA) (eqb (crcOf (take (lengt
     c : ℕ
     c = getD s 1 0
 
-    go : (t u v : Bool) → Sound c (cond t request.Foreign (cond u (cond v (askedOf c s) (request.Damaged c)) request.Foreign))
+    go : (t u v : Bool) → Sound c (cond t (request.Refused Foreign) (cond u (cond v (askedOf c s) (request.Refused (Damaged c))) (request.Refused Foreign)))
     go true u v = record { named = refl; in-range = refl }
     go false true true = asked c s
     go false true false = record { named = refl; in-range = refl }

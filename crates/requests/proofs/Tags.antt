@@ -11,21 +11,21 @@ use denote.Enum.Declared.{tagOf}
 use borrow.Author.Tests.{ne-eqb}
 use Rattle.requests.specs.declared.Query.{Query}
 use Rattle.requests.specs.declared.Query.the-variants.{Registers, Live, NewEvents, AllEvents, Temperatures, Cells, SettingsOf}
-use Rattle.requests.specs.Requests.{hasLength, highFirst}
+use Rattle.requests.specs.Requests.{hasLength, highFirst, marks}
 use Rattle.requests.proofs.Query.{the-type}
 
 abbrev pub tag : Query → ℕ
 tag = tagOf the-type
 
-pub by-tag : (q : Query) → (hasLength q ≡ not (eqb (tag q) 1)) × (highFirst q ≡ eqb (tag q) 0)
-unfolding hasLength highFirst
-by-tag (Registers at n) = (refl, refl)
-by-tag (Live command at n) = (refl, refl)
-by-tag NewEvents = (refl, refl)
-by-tag AllEvents = (refl, refl)
-by-tag Temperatures = (refl, refl)
-by-tag Cells = (refl, refl)
-by-tag (SettingsOf kind n) = (refl, refl)
+pub by-tag : (q : Query) → (hasLength q ≡ not (eqb (tag q) 1)) × (highFirst q ≡ eqb (tag q) 0) × (marks q ≡ eqb (tag q) 2)
+unfolding hasLength highFirst marks
+by-tag (Registers at n) = (refl, refl, refl)
+by-tag (Live command at n) = (refl, refl, refl)
+by-tag NewEvents = (refl, refl, refl)
+by-tag AllEvents = (refl, refl, refl)
+by-tag Temperatures = (refl, refl, refl)
+by-tag Cells = (refl, refl, refl)
+by-tag (SettingsOf kind n) = (refl, refl, refl)
 
 -- what an arm stands for is not what it leaves out
 pub others : (ks : List ℕ) (k n : ℕ) → OneOf ks n → T (not (hasKey ks k)) → eqb n k ≡ false

@@ -9,12 +9,16 @@ use Rattle.crc.specs.Crc.{crcOf}
 use Rattle.settings.specs.declared.Kind.{Kind}
 use Rattle.settings.specs.declared.Kind.the-variants.{Minimum, Maximum, Default, Current}
 use Rattle.settings.specs.declared.Draft.{Draft}
+use Rattle.settings.specs.declared.Settings.{Settings}
+use Rattle.settings.specs.declared.Written.{Written}
 use Rattle.settings.specs.Settings as settings
 use Rattle.requests.specs.declared.Query.{Query}
 use Rattle.requests.specs.declared.Query.the-variants.{Registers, Live, NewEvents, AllEvents, Temperatures, Cells, SettingsOf}
 use Rattle.requests.specs.declared.Command.{Command}
 use Rattle.requests.specs.declared.Command.the-variants.{Clear, Block, Write, Ask, AskSettings, Unknown}
 use Rattle.requests.specs.declared.Expected.{Expected}
+use Rattle.requests.specs.declared.Refusal.{Refusal}
+use Rattle.requests.specs.declared.Refusal.the-variants.{Foreign, Damaged, Against}
 use Rattle.requests.specs.declared.Request.{Request}
 use Rattle.requests.specs.declared.Request.the-variants as request
 
@@ -55,18 +59,22 @@ inOneRange at n = leb (at + n) 56 || leb 100 at && leb (at + n) 118 || leb 300 a
 abbrev pub between : ℕ → ℕ → ℕ → Bool
 between least most n = leb least n && leb n most
 
+-- unknown command, wrong length, or a field against its rule
+abbrev pub against : ℕ → Request
+against command = request.Refused (Against command)
+
 -- 0x02: option 01 clears events, 02 clears statistics; others are number 4
 unfoldable pub clearOf : ℕ → Request
-clearOf option = cond (eqb option 1) request.ClearEvents (cond (eqb option 2) request.ClearStatistics (request.Refused 0x02))
+clearOf option = cond (eqb option 1) request.ClearEvents (cond (eqb option 2) request.ClearStatistics (against 0x02))
 
 -- 0x03: address high, low, 00, RL. RL 1 to 127
 unfoldable pub blockOf : ℕ → ℕ → ℕ → Request
-blockOf at padding rl = cond (eqb padding 0 && between 1 127 rl && inOneRange at rl) (request.Read (Registers at rl)) (request.Refused 0x03)
+blockOf at padding rl = cond (eqb padding 0 && between 1 127 rl && inOneRange at rl) (request.Read (Registers at rl)) (against 0x03)
 
 -- 0x10: address high, low, 00, RL, PL. RL 1 to 100, PL = 2·RL, addresses all in 300 to 399
 unfoldable pub writeOf : ℕ → ℕ → ℕ → ℕ → Request
 writeOf at padding rl pl =
-    cond (eqb padding 0 && between 1 100 rl && eqb pl (2 * rl) && leb 300 at && leb (at + rl) 400) (request.Write (at - 300) rl) (request.Refused 0x10)
+    cond (eqb padding 0 && between 1 100 rl && eqb pl (2 * rl) && leb 300 at && leb (at + rl) 400) (request.Write (at - 300) rl) (against 0x10)
 
 -- 0x1D: option 1 to 4 (minimum, maximum, default, current), 00, RL 1 to 100
 unfoldable pub kindOf : ℕ → Kind
@@ -74,7 +82,7 @@ kindOf option = cond (eqb option 1) Minimum (cond (eqb option 2) Maximum (cond (
 
 unfoldable pub settingsOf : ℕ → ℕ → ℕ → Request
 settingsOf option padding rl =
-    cond (between 1 4 option && eqb padding 0 && between 1 100 rl) (request.Read (SettingsOf (kindOf option) rl)) (request.Refused 0x1D)
+    cond (between 1 4 option && eqb padding 0 && between 1 100 rl) (request.Read (SettingsOf (kindOf option) rl)) (against 0x1D)
 
 -- the fields of a request whose length is right
 unfoldable pub fieldsOf : Command → ℕ → List ℕ → Request
@@ -83,20 +91,26 @@ fieldsOf Block command bytes = blockOf (be16At bytes 2) (getD bytes 4 0) (getD b
 fieldsOf Write command bytes = writeOf (be16At bytes 2) (getD bytes 4 0) (getD bytes 5 0) (getD bytes 6 0)
 fieldsOf (Ask q) command bytes = request.Read q
 fieldsOf AskSettings command bytes = settingsOf (getD bytes 2 0) (getD bytes 3 0) (getD bytes 4 0)
-fieldsOf Unknown command bytes = request.Refused command
+fieldsOf Unknown command bytes = against command
 
--- unknown command, wrong length, or a field against its rule
+-- what a request of that command asks, where its length is right
 unfoldable pub askedOf : ℕ → List ℕ → Request
 askedOf command bytes =
-    cond (eqb (length bytes) (expectedOf command (getD bytes 5 0) .length)) (fieldsOf (expectedOf command (getD bytes 5 0) .command) command bytes) (request.Refused command)
+    cond (eqb (length bytes) (expectedOf command (getD bytes 5 0) .length)) (fieldsOf (expectedOf command (getD bytes 5 0) .command) command bytes) (against command)
 
 -- under 4 bytes, or first byte not 0xAA; last two bytes are not the CRC of the rest
 unfoldable pub requestOf : List ℕ → Request
 requestOf bytes =
-    cond (ltb (length bytes) 4) request.Foreign
+    cond (ltb (length bytes) 4) (request.Refused Foreign)
     (cond (eqb (getD bytes 0 0) 0xAA)
-    (cond (eqb (crcOf (take (length bytes - 2) bytes)) (le16At bytes (length bytes - 2))) (askedOf (getD bytes 1 0) bytes) (request.Damaged (getD bytes 1 0)))
-    request.Foreign)
+    (cond (eqb (crcOf (take (length bytes - 2) bytes)) (le16At bytes (length bytes - 2))) (askedOf (getD bytes 1 0) bytes) (request.Refused (Damaged (getD bytes 1 0))))
+    (request.Refused Foreign))
+
+-- its number
+unfoldable pub refusalNumber : Refusal → ℕ
+refusalNumber Foreign = 2
+refusalNumber (Damaged command) = 3
+refusalNumber (Against command) = 4
 
 -- ---- what its reply is like
 
@@ -130,9 +144,33 @@ highFirst Temperatures = false
 highFirst Cells = false
 highFirst (SettingsOf kind n) = false
 
+-- 0x11 marks what it sends; 0x12 sends all kept and marks nothing
+unfoldable pub marks : Query → Bool
+marks (Registers at n) = false
+marks (Live command at n) = false
+marks NewEvents = true
+marks AllEvents = false
+marks Temperatures = false
+marks Cells = false
+marks (SettingsOf kind n) = false
+
+-- how many words of sixteen bits it has, where so many events are new, so many kept, and there are so many cells
+unfoldable pub wordCount : Query → ℕ → ℕ → ℕ → ℕ
+wordCount (Registers at n) new kept cells = n
+wordCount (Live command at n) new kept cells = n
+wordCount NewEvents new kept cells = 2 + 2 * new
+wordCount AllEvents new kept cells = 2 + 2 * kept
+wordCount Temperatures new kept cells = 3
+wordCount Cells new kept cells = cells
+wordCount (SettingsOf kind n) new kept cells = n
+
 -- ---- what a write asks for
 
 -- n registers of a request, from the register 300 + from, high byte first, put into a draft
 unfoldable pub draftedOf : Draft → List ℕ → ℕ → ℕ → Draft
 draftedOf d bytes from zero = d
 draftedOf d bytes from (suc n) = settings.putOf (draftedOf d bytes from n) (300 + from + n) (be16At bytes (7 + 2 * n))
+
+-- judged whole, the write's verdict and the settings that then stand
+abbrev pub writtenTo : Settings → List ℕ → ℕ → ℕ → Written
+writtenTo st bytes from n = settings.writtenOf (draftedOf (settings.draftOf st) bytes from n)

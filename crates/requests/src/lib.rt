@@ -2,9 +2,11 @@
 ghost use mathlib.Core.Path.{_≡_};
 ghost use Prim.Native.Nat.{_+_, _≤_};
 ghost use lib.ListN.{getD};
-ghost use Rattle.requests.specs.Requests.{be16At, le16At, expect, expectedOf, inOneRange, clearOf, blockOf, writeOf, kindOf, settingsOf, fieldsOf, askedOf, requestOf, commandOf, hasLength, highFirst, draftedOf};
+ghost use Rattle.requests.specs.Requests.{be16At, le16At, expect, expectedOf, inOneRange, clearOf, blockOf, writeOf, kindOf, settingsOf, fieldsOf, askedOf, requestOf, refusalNumber, commandOf, hasLength, highFirst, marks, wordCount, draftedOf, writtenTo};
 use settings::Draft;
 use settings::Kind;
+use settings::Settings;
+use settings::Written;
 
 // A request that changes nothing but 0x11's mark. A reply to it is a head and words of sixteen bits.
 pub enum Query {
@@ -33,15 +35,33 @@ pub struct Expected {
     pub command: Command,
 }
 
-// What a whole request comes to: none of ours, one whose CRC is wrong, one that is refused with its command, or what it asks.
-pub enum Request {
+// Why a request is refused: it is none of ours, its CRC is wrong, or it is against a rule; the last two with its command.
+pub enum Refusal {
     Foreign,
     Damaged(u8),
-    Refused(u8),
+    Against(u8),
+}
+
+// What a whole request comes to: a refusal, or what it asks.
+pub enum Request {
+    Refused(Refusal),
     ClearEvents,
     ClearStatistics,
     Write { from: u8, count: u8 },
     Read(Query),
+}
+
+impl Refusal {
+    // Document 01's number.
+    pub fn number(self) -> u8
+        ensures { λ r. ⌜ r ≡ refusalNumber self ⌝ }
+    {
+        match self {
+            Refusal::Foreign => 2,
+            Refusal::Damaged(_) => 3,
+            Refusal::Against(_) => 4,
+        }
+    }
 }
 
 impl Query {
@@ -87,6 +107,35 @@ impl Query {
             _ => false,
         }
     }
+
+    // 0x11 marks what it sends; 0x12 marks nothing.
+    pub fn marks(self) -> bool
+        ensures { λ r. ⌜ r ≡ marks self ⌝ }
+    {
+        match self {
+            Query::NewEvents => true,
+            _ => false,
+        }
+    }
+
+    // How many words the reply has, where so many events are new, so many kept, and there are so many cells.
+    pub fn word_count(self, new: u8, kept: u8, cells: u8) -> u16
+        ensures { λ r. ⌜ r ≡ wordCount self new kept cells ⌝ }
+    {
+        match self {
+            Query::Registers { at: _, count } => count as u16,
+            Query::Live {
+                command: _,
+                at: _,
+                count,
+            } => count as u16,
+            Query::NewEvents => 2 + 2 * (new as u16),
+            Query::AllEvents => 2 + 2 * (kept as u16),
+            Query::Temperatures => 3,
+            Query::Cells => cells as u16,
+            Query::SettingsOf { kind: _, count } => count as u16,
+        }
+    }
 }
 
 // A whole request, of any bytes.
@@ -95,10 +144,10 @@ pub fn parsed(bytes: &[u8]) -> Request
 {
     let n = bytes.len();
     if n < 4 {
-        return Request::Foreign;
+        return Request::Refused(Refusal::Foreign);
     }
     if byte_at(bytes, 0) != 0xAA {
-        return Request::Foreign;
+        return Request::Refused(Refusal::Foreign);
     }
     let command = byte_at(bytes, 1);
     let end = n - 2;
@@ -107,12 +156,19 @@ pub fn parsed(bytes: &[u8]) -> Request
     if crc == told {
         asked(command, bytes)
     } else {
-        Request::Damaged(command)
+        Request::Refused(Refusal::Damaged(command))
     }
 }
 
-// The registers of a write, high byte first, put into a draft one by one.
-pub fn drafted(draft: Draft, bytes: &[u8], from: u8, count: u8) -> Draft
+// A write of registers, high byte first, to settings that stand: judged whole, and what then stands.
+pub fn written(settings: Settings, bytes: &[u8], from: u8, count: u8) -> Written
+    ensures { λ r. ⌜ r ≡ writtenTo settings (now (bytes .entry)) from count ⌝ }
+{
+    drafted(settings.draft(), bytes, from, count).finish()
+}
+
+// The registers, put into a draft one by one.
+fn drafted(draft: Draft, bytes: &[u8], from: u8, count: u8) -> Draft
     ensures { λ r. ⌜ r ≡ draftedOf draft (now (bytes .entry)) from count ⌝ }
 {
     let mut all = draft;
@@ -130,7 +186,7 @@ fn asked(command: u8, bytes: &[u8]) -> Request
 {
     let expected = expected_of(command, byte_at(bytes, 5));
     if bytes.len() != expected.length {
-        return Request::Refused(command);
+        return Request::Refused(Refusal::Against(command));
     }
     let kind = expected.command;
     fields(kind, command, bytes)
@@ -181,7 +237,7 @@ fn fields(command: Command, code: u8, bytes: &[u8]) -> Request
             byte_at(bytes, 3),
             byte_at(bytes, 4),
         ),
-        Command::Unknown => Request::Refused(code),
+        Command::Unknown => Request::Refused(Refusal::Against(code)),
     }
 }
 
@@ -194,7 +250,7 @@ fn clear(option: u8) -> Request
     if option == 2 {
         Request::ClearStatistics
     } else {
-        Request::Refused(0x02)
+        Request::Refused(Refusal::Against(0x02))
     }
 }
 
@@ -205,7 +261,7 @@ fn block(at: u16, padding: u8, rl: u8) -> Request
     if good {
         return Request::Read(Query::Registers { at, count: rl });
     }
-    Request::Refused(0x03)
+    Request::Refused(Refusal::Against(0x03))
 }
 
 fn is_in_one_range(at: u16, rl: u8) -> bool
@@ -227,7 +283,7 @@ fn write(at: u16, padding: u8, rl: u8, pl: u8) -> Request
             count: rl,
         };
     }
-    Request::Refused(0x10)
+    Request::Refused(Refusal::Against(0x10))
 }
 
 fn settings_of(option: u8, padding: u8, rl: u8) -> Request
@@ -240,7 +296,7 @@ fn settings_of(option: u8, padding: u8, rl: u8) -> Request
             count: rl,
         });
     }
-    Request::Refused(0x1D)
+    Request::Refused(Refusal::Against(0x1D))
 }
 
 fn kind_of(option: u8) -> Kind

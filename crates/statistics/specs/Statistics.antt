@@ -4,6 +4,7 @@ use mathlib.Core.Bool.{Bool, false, _&&_, _||_, not, cond}
 use Prim.Native.Nat.{ℕ, _+_, _*_, _-_, _/_, _%_, min, max}
 use lib.Dec.{eqb}
 use lib.IntN.{ℤ, pos}
+use Rattle.pairs.specs.Pairs.{lowHalf, highHalf}
 use Rattle.cells.specs.declared.Extremes.{Extremes}
 use Rattle.signed.specs.Signed.{above, below, lowerOf, higherOf, degreesOf}
 use Rattle.readings.specs.declared.Readings.{Readings}
@@ -93,11 +94,11 @@ clearedAt lifetime =
       cleared = lifetime;
     }
 
--- registers 100 to 117, on a board with those pulses per km; in a pair, the lower number holds the low 16 bits
+-- registers 100 to 117, on a board with those pulses per km
 unfoldable pub registerOf : Statistics → ℕ → ℕ → ℕ
 registerOf s perKm at =
-    cond (eqb at 100) (distanceOf (s .pulses) perKm % 65536)
-    (cond (eqb at 101) (distanceOf (s .pulses) perKm / 65536)
+    cond (eqb at 100) (lowHalf (distanceOf (s .pulses) perKm))
+    (cond (eqb at 101) (highHalf (distanceOf (s .pulses) perKm))
     (cond (eqb at 102) (s .drawn)
     (cond (eqb at 103) (s .fed)
     (cond (eqb at 104) (s .difference)
@@ -108,6 +109,6 @@ registerOf s perKm at =
     (cond (eqb at 109) (s .counts .ot)
     (cond (eqb at 111) (s .counts .charging)
     (cond (eqb at 113) (temperaturesShown (s .temperatures))
-    (cond (eqb at 116) (s .cleared % 65536)
-    (cond (eqb at 117) (s .cleared / 65536)
+    (cond (eqb at 116) (lowHalf (s .cleared))
+    (cond (eqb at 117) (highHalf (s .cleared))
     0)))))))))))))

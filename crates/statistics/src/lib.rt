@@ -111,8 +111,8 @@ impl Statistics {
         ensures { λ r. ⌜ r ≡ registerOf self «per_km» at ⌝ }
     {
         match at {
-            100 => (self.distance(per_km) % 65536) as u16,
-            101 => (self.distance(per_km) / 65536) as u16,
+            100 => pairs::low(self.distance(per_km)),
+            101 => pairs::high(self.distance(per_km)),
             102 => self.drawn,
             103 => self.fed,
             104 => self.difference,
@@ -123,8 +123,8 @@ impl Statistics {
             109 => self.counts.ot,
             111 => self.counts.charging,
             113 => self.temperatures.shown(),
-            116 => (self.cleared % 65536) as u16,
-            117 => (self.cleared / 65536) as u16,
+            116 => pairs::low(self.cleared),
+            117 => pairs::high(self.cleared),
             _ => 0,
         }
     }

@@ -6,7 +6,8 @@ use lib.Dec.{eqb}
 use lib.Seq.{length-take-le}
 use borrow.Author.Tests.{lt-ltb, le-ltb, ne-eqb, eq-eqb}
 use borrow.Author.Needs.{needs}
-use Rattle.requests.specs.declared.Request.the-variants.{Damaged}
+use Rattle.requests.specs.declared.Refusal.the-variants.{Damaged}
+use Rattle.requests.specs.declared.Request.the-variants.{Refused}
 use Rattle.requests.specs.Requests.{askedOf, requestOf}
 use Rattle.requests.proofs.parsed.Statement.{statement}
 use Rattle.requests.proofs.parsed.Tie as tie
@@ -15,7 +16,7 @@ use Rattle.requests.proofs.parsed.Tie as tie
 framed : (c : tie.After-low-first-at) →
     let b = c .before .before .before in
     let s = now (b .before .before .before .before .before .args .bytes) in
-    requestOf s ≡ cond (eqb (c .before .crc .result) (c .low-first-at .result)) (askedOf (b .byte-at2 .result) s) (Damaged (b .byte-at2 .result))
+    requestOf s ≡ cond (eqb (c .before .crc .result) (c .low-first-at .result)) (askedOf (b .byte-at2 .result) s) (Refused (Damaged (b .byte-at2 .result)))
 unfolding requestOf
 framed c =
     let b = c .before .before .before in

@@ -28,11 +28,14 @@ returns c =
 new-requires : tie.Need-new-requires
 new-requires c κs = search needs
 
+with-hire-requires : tie.Need-with-hire-requires
+with-hire-requires c κs = search needs
+
 with-number-requires-2 : tie.Need-with-number-requires-2
 with-number-requires-2 c κs = search needs
 
 returns-2 : tie.Need-returns-2
-returns-2 c = rw (c .with-number2 .ensures, c .before .new .ensures) (search (handed, needs))
+returns-2 c = rw (c .with-number2 .ensures, c .before .with-hire .ensures, c .before .before .new .ensures) (search (handed, needs))
 
 pub handover-spec : {M : Type 1} → statement M
-handover-spec = tie.close (tie.spec is-usable-requires with-number-requires returns new-requires with-number-requires-2 returns-2)
+handover-spec = tie.close (tie.spec is-usable-requires with-number-requires returns new-requires with-hire-requires with-number-requires-2 returns-2)

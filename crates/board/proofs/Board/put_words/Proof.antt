@@ -2,9 +2,9 @@
 use mathlib.Core.Path.{_≡_}
 use Prim.Native.Nat.{_≤_, _-_}
 use native.Mathlib.Omega.{arith}
-use Rattle.board.specs.Wire.{word16, words, Wrote}
+use Rattle.wire.specs.Wire.{word16, words, Wrote}
 use Rattle.board.specs.Replies.{wordOf}
-use Rattle.board.proofs.Writing.{none, words-more}
+use Rattle.wire.proofs.Writing.{none, same, words-more}
 use borrow.Author.Needs.{needs}
 use Rattle.board.proofs.Board.put_words.Statement.{statement}
 use Rattle.board.proofs.Board.put_words.Tie as tie
@@ -53,7 +53,7 @@ loop-again c =
     (search needs, words-more (high .high-first .result) (wordOf (args .self) (args .query)) (at .loop .i) _ (at .loop .inv .1) (put .put-word .ensures) (word .word .ensures) (search needs))
 
 same-length : tie.Need-same-length Inv-loop μ-loop
-same-length c = search needs
+same-length c = search (same, needs)
 
 returns : tie.Need-returns Inv-loop μ-loop
 returns c =

@@ -5,26 +5,26 @@ use borrow.Author.Needs.{needs}
 use Rattle.board.proofs.Board.register.Statement.{statement}
 use Rattle.board.proofs.Board.register.Tie as tie
 
-live-register-requires : tie.Need-live-register-requires
-live-register-requires c κs = search needs
-
-returns : tie.Need-returns
-unfolding shownAt
-returns c = rw (le-leb _ _ (c .before .if1 .taken), c .live-register .ensures)
-
 register-requires : tie.Need-register-requires
 register-requires c κs = search needs
 
-returns-2 : tie.Need-returns-2
+returns : tie.Need-returns
 unfolding shownAt
-returns-2 c = rw (lt-leb _ _ (c .before .before .if1 .left), c .before .if2 .taken, c .register .ensures)
+returns c = rw (le-leb _ _ (c .before .if1 .taken), c .register .ensures)
 
 register-requires-2 : tie.Need-register-requires-2
 register-requires-2 c κs = search needs
 
+returns-2 : tie.Need-returns-2
+unfolding shownAt
+returns-2 c = rw (lt-leb _ _ (c .before .before .if1 .left), c .before .if2 .taken, c .register2 .ensures)
+
+register-requires-3 : tie.Need-register-requires-3
+register-requires-3 c κs = search needs
+
 returns-3 : tie.Need-returns-3
 unfolding shownAt
-returns-3 c = rw (lt-leb _ _ (c .before .before .before .if1 .left), c .before .before .if2 .left, c .before .if3 .taken, c .register2 .ensures)
+returns-3 c = rw (lt-leb _ _ (c .before .before .before .if1 .left), c .before .before .if2 .left, c .before .if3 .taken, c .register3 .ensures)
 
 returns-4 : tie.Need-returns-4
 unfolding shownAt
@@ -34,10 +34,10 @@ pub register-spec : {M : Type 1} → statement M
 register-spec =
     tie.close
     (tie.spec
-    live-register-requires
-    returns
     register-requires
-    returns-2
+    returns
     register-requires-2
+    returns-2
+    register-requires-3
     returns-3
     returns-4)

@@ -1,13 +1,13 @@
 -- The first two bytes, the length byte, the words and the end. Assumes nothing.
 use Prim.Native.Nat.{_≤_}
-use Rattle.board.proofs.Sending.{within-three, sent}
+use Rattle.board.proofs.Replies.{within-three, sent}
 use borrow.Author.Needs.{needs}
 use Rattle.board.proofs.Board.send.Statement.{statement}
 use Rattle.board.proofs.Board.send.Tie as tie
 
 -- the words begin at the third byte or the fourth
 room : (c : tie.After-put-length) → c .put-length .result ≤ 3
-room c = rw (c .put-length .ensures .0) (within-three (c .before .has-length .result))
+room c = rw (c .put-length .ensures .place-is) (within-three (c .before .has-length .result))
 
 command-requires : tie.Need-command-requires
 command-requires c κs = search needs
@@ -17,6 +17,12 @@ begin-requires c κs = search needs
 
 has-length-requires : tie.Need-has-length-requires
 has-length-requires c κs = search needs
+
+mul-put-length : tie.Need-mul-put-length
+mul-put-length c = search needs
+
+cast-put-length : tie.Need-cast-put-length
+cast-put-length c = search needs
 
 put-length-requires : tie.Need-put-length-requires
 put-length-requires c κs = search needs
@@ -46,6 +52,8 @@ send-spec =
     command-requires
     begin-requires
     has-length-requires
+    mul-put-length
+    cast-put-length
     put-length-requires
     put-words-requires
     mul-seal

@@ -4,14 +4,11 @@ use borrow.Author.Needs.{needs}
 use Rattle.board.proofs.Board.start.Statement.{statement}
 use Rattle.board.proofs.Board.start.Tie as tie
 
-factory-requires : tie.Need-factory-requires
-factory-requires c κs = search needs
-
-none-requires : tie.Need-none-requires
-none-requires c κs = search needs
-
 new-requires : tie.Need-new-requires
 new-requires c κs = search needs
+
+new-requires-2 : tie.Need-new-requires-2
+new-requires-2 c κs = search needs
 
 number-requires : tie.Need-number-requires
 number-requires c κs = search needs
@@ -23,9 +20,9 @@ returns : tie.Need-returns
 unfolding startBoard
 returns c =
     let number = c .before in
-    let new = number .before in
-    rw (c .with-number .ensures, number .number .ensures, new .new .ensures, new .before .none .ensures, new .before .before .factory .ensures)
+    let hire = number .before in
+    rw (c .with-number .ensures, number .number .ensures, hire .new2 .ensures, hire .before .new .ensures)
 
 pub start-spec : {M : Type 1} → statement M
 start-spec =
-    tie.close (tie.spec factory-requires none-requires new-requires number-requires with-number-requires returns)
+    tie.close (tie.spec new-requires new-requires-2 number-requires with-number-requires returns)

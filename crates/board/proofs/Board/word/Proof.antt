@@ -31,32 +31,14 @@ value-requires-2 c κs = search needs
 enum-told : tie.Need-enum-told
 enum-told c = search needs
 
-one-less-requires : tie.Need-one-less-requires
-one-less-requires c κs = search needs
-
-new-at-requires : tie.Need-new-at-requires
-new-at-requires c κs = search needs
-
-long-requires : tie.Need-long-requires
-long-requires c κs = search needs
-
-half-requires : tie.Need-half-requires
-half-requires c κs = search needs
+new-word-requires : tie.Need-new-word-requires
+new-word-requires c κs = search needs
 
 enum-told-2 : tie.Need-enum-told-2
 enum-told-2 c = search needs
 
-one-less-requires-2 : tie.Need-one-less-requires-2
-one-less-requires-2 c κs = search needs
-
-kept-at-requires : tie.Need-kept-at-requires
-kept-at-requires c κs = search needs
-
-long-requires-2 : tie.Need-long-requires-2
-long-requires-2 c κs = search needs
-
-half-requires-2 : tie.Need-half-requires-2
-half-requires-2 c κs = search needs
+kept-word-requires : tie.Need-kept-word-requires
+kept-word-requires c κs = search needs
 
 enum-told-3 : tie.Need-enum-told-3
 enum-told-3 c = search needs
@@ -92,15 +74,11 @@ returns-2 c = rw (c .before .before .query2 .given .1, c .value2 .ensures)
 
 returns-3 : tie.Need-returns-3
 unfolding wordOf
-returns-3 c =
-    let new = c .before .before in
-    rw (new .before .before .enum-told .given .1, c .half .ensures, c .before .long .ensures, new .new-at .ensures, new .before .one-less .ensures)
+returns-3 c = rw (c .before .enum-told .given .1, c .new-word .ensures)
 
 returns-4 : tie.Need-returns-4
 unfolding wordOf
-returns-4 c =
-    let kept = c .before .before in
-    rw (kept .before .before .enum-told2 .given .1, c .half2 .ensures, c .before .long2 .ensures, kept .kept-at .ensures, kept .before .one-less2 .ensures)
+returns-4 c = rw (c .before .enum-told2 .given .1, c .kept-word .ensures)
 
 returns-5 : tie.Need-returns-5
 unfolding wordOf
@@ -127,15 +105,9 @@ word-spec =
     add-value-2
     value-requires-2
     enum-told
-    one-less-requires
-    new-at-requires
-    long-requires
-    half-requires
+    new-word-requires
     enum-told-2
-    one-less-requires-2
-    kept-at-requires
-    long-requires-2
-    half-requires-2
+    kept-word-requires
     enum-told-3
     temperature-requires
     enum-told-4

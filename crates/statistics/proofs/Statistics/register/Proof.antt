@@ -8,31 +8,31 @@ use Rattle.statistics.proofs.Statistics.register.Tie as tie
 distance-requires : tie.Need-distance-requires
 distance-requires c κs = search needs
 
-cast-result : tie.Need-cast-result
-cast-result c = search needs
+low-requires : tie.Need-low-requires
+low-requires c κs = search needs
 
 distance-requires-2 : tie.Need-distance-requires-2
 distance-requires-2 c κs = search needs
 
-cast-result-2 : tie.Need-cast-result-2
-cast-result-2 c = search needs
+high-requires : tie.Need-high-requires
+high-requires c κs = search needs
 
 shown-requires : tie.Need-shown-requires
 shown-requires c κs = search needs
 
-cast-result-3 : tie.Need-cast-result-3
-cast-result-3 c = search needs
+low-requires-2 : tie.Need-low-requires-2
+low-requires-2 c κs = search needs
 
-cast-result-4 : tie.Need-cast-result-4
-cast-result-4 c = search needs
+high-requires-2 : tie.Need-high-requires-2
+high-requires-2 c κs = search needs
 
 returns : tie.Need-returns
 unfolding registerOf
-returns c = rw (c .before .match .keys1, c .distance .ensures)
+returns c = rw (c .before .before .match .keys1, c .low .ensures, c .before .distance .ensures)
 
 returns-2 : tie.Need-returns-2
 unfolding registerOf
-returns-2 c = rw (c .before .match .keys2, c .distance2 .ensures)
+returns-2 c = rw (c .before .before .match .keys2, c .high .ensures, c .before .distance2 .ensures)
 
 returns-3 : tie.Need-returns-3
 unfolding registerOf
@@ -76,11 +76,11 @@ returns-12 c = rw (c .before .match .keys12, c .shown .ensures)
 
 returns-13 : tie.Need-returns-13
 unfolding registerOf
-returns-13 c = rw (c .before .match .keys13)
+returns-13 c = rw (c .before .match .keys13, c .low2 .ensures)
 
 returns-14 : tie.Need-returns-14
 unfolding registerOf
-returns-14 c = rw (c .before .match .keys14)
+returns-14 c = rw (c .before .match .keys14, c .high2 .ensures)
 
 returns-15 : tie.Need-returns-15
 unfolding registerOf
@@ -108,12 +108,12 @@ register-spec =
     tie.close
     (tie.spec
     distance-requires
-    cast-result
+    low-requires
     distance-requires-2
-    cast-result-2
+    high-requires
     shown-requires
-    cast-result-3
-    cast-result-4
+    low-requires-2
+    high-requires-2
     returns
     returns-2
     returns-3

@@ -1,0 +1,241 @@
+-- One tick more: what the account of each part then says is what a tick makes of that part, by one law of lists for each kind of part.
+-- Assumes nothing.
+use mathlib.Core.Path.{_≡_, refl, sym, ap, _∙_}
+use mathlib.Core.Bool.{Bool, true, false, _&&_, _||_, not, cond, and-true, and-false, or-false}
+use mathlib.Core.List.{List, [], _∷_, _++_, map, append-nil, append-assoc}
+use Prim.Native.Nat.{ℕ, suc, _+_, _*_, _-_, _/_, _%_, _≤_, min, max}
+use native.Mathlib.Omega.{arith}
+use borrow.Author.Tests.{ltb-true, ltb-false, lt-ltb, eq-eqb, ne-eqb}
+use lib.Dec.{eqb, ltb}
+use lib.IntN.{ℤ}
+use lib.ListN.{length}
+use Rattle.laws.specs.Fold.{bitOf, shifted}
+use Rattle.laws.specs.History.{since, from, each, sum, count, largest, any, upTo, newest, ago, latest, stands, waits, pour}
+use Rattle.laws.proofs.Lists.{pour-append, pushed, timer, waited}
+use Rattle.cells.specs.Cells.{extremesOf}
+use Rattle.events.specs.declared.Event.{Event}
+use Rattle.events.specs.declared.Events.{Events}
+use Rattle.events.specs.Events.{capacity, eventAt, noEvent, addOf}
+use Rattle.guard.specs.declared.Conditions.{Conditions}
+use Rattle.guard.specs.declared.Condition.{Condition}
+use Rattle.guard.specs.declared.Condition.the-variants.{UV, OV, OT, DOC, COC, ROC, LT}
+use Rattle.guard.specs.declared.Guard.{Guard}
+use Rattle.guard.specs.Guard.{waitsOf, recoversOf, latchOf, latchedOf, guardOf, cellsHighEnough, cellsLowEnough, sensorsCool, externalsMild}
+use Rattle.guard.specs.Table.{is, eventOf}
+use Rattle.readings.specs.declared.Readings.{Readings}
+use Rattle.readings.specs.Readings.{connected}
+use Rattle.signed.specs.Signed.{above, below, lowerOf, higherOf}
+use Rattle.statistics.specs.declared.Temperatures.{Temperatures}
+use Rattle.statistics.specs.Statistics.{hundreds, countOf, countsOf, withExternal, riddenOf, countedOf}
+use Rattle.pack.specs.declared.Clock.{Clock}
+use Rattle.pack.specs.Pack.{laterOf}
+use Rattle.hire.specs.Tick.{chargerEvent}
+use Rattle.board.specs.Account.{Deed, took, clears, hands, ticking, Moment, momentOf, momentsAt, holds, waitOf, settingsAt, countAt, secondsAt, clockAt, latchedAt, waitsAt, windowAt, chargerAt, statusAt, someEvent, numbersOf, keptSince, newSince, eventsAt, latchings, entering, externals, coldestOf, hottestOf, seenOf, temperaturesOf, pulsesAt, statisticsAt}
+
+-- ---- time
+clock-same : {a b c d : ℕ} → a ≡ b → c ≡ d → _≡_ {A = Clock} (record { seconds = a; tenths = c }) (record { seconds = b; tenths = d })
+clock-same p q = λ i. record { seconds = p i; tenths = q i }
+
+abbrev clockOf : ℕ → Clock
+clockOf n = record { seconds = min 4294967295 (n / 10); tenths = min 42949672959 n % 10 }
+
+later : (n : ℕ) → clockOf (suc n) ≡ laterOf (clockOf n)
+unfolding laterOf
+later n = go (ltb (min 42949672959 n % 10) 9) refl (ltb (min 4294967295 (n / 10)) 4294967295) refl
+  where
+    go : (s : Bool) → ltb (min 42949672959 n % 10) 9 ≡ s → (t : Bool) → ltb (min 4294967295 (n / 10)) 4294967295 ≡ t
+        → clockOf (suc n)
+        ≡ cond s (record { seconds = min 4294967295 (n / 10); tenths = min 42949672959 n % 10 + 1 })
+        (cond t (record { seconds = min 4294967295 (n / 10) + 1; tenths = 0 }) (clockOf n))
+    go true e t f = clock-same (omega (arith, ltb-true)) (omega (arith, ltb-true))
+    go false e true f = clock-same (omega (arith, ltb-false, ltb-true)) (omega (arith, ltb-false, ltb-true))
+    go false e false f = clock-same (omega (arith, ltb-false)) (omega (arith, ltb-false))
+
+pub clock-next : (cells : List ℕ) (r : Readings) (h : List Deed) → clockAt (took cells r ∷ h) ≡ laterOf (clockAt h)
+unfolding clockAt secondsAt
+clock-next cells r h = later (countAt h)
+
+-- ---- latches
+module _ {A : Type 0} (held : A → Bool) where
+  stands-next : (over : A → Bool) (t : A) (ts : List A) → stands held over (t ∷ ts) ≡ latchOf (stands held over ts) (held t) (over t)
+  stands-next over t ts = go (held t) (over t)
+    where
+      go : (a b : Bool) → cond a true (any held (cond b [] (upTo over ts))) ≡ latchOf (stands held over ts) a b
+      go true b = refl
+      go false true = sym (and-false (stands held over ts))
+      go false false = sym (and-true (stands held over ts))
+
+  module _ (wait : A → ℕ) where
+    abbrev left : List A → ℕ
+    left ts = sum (λ t. wait t - ago held ts) (newest held ts)
+
+    left-next : (t : A) (ts : List A) → left (t ∷ ts) ≡ cond (held t) (wait t) (left ts - 1)
+    left-next t ts = sym (timer held wait (t ∷ ts)) ∙ ap (λ n. cond (held t) (wait t) (n - 1)) (timer held wait ts)
+
+    left-waits : (ts : List A) → waits held wait ts ≡ ltb 0 (left ts)
+    left-waits ts = sym (waited held wait ts) ∙ ap (ltb 0) (timer held wait ts)
+
+    waits-next : (t : A) (ts : List A) → 1 ≤ wait t → waits held wait (t ∷ ts) ≡ latchOf (waits held wait ts) (held t) (eqb (cond (held t) (wait t) (left ts - 1)) 0)
+    waits-next t ts some =
+        left-waits (t ∷ ts) ∙ ap (ltb 0) (left-next t ts) ∙ go (held t) (left ts)
+        ∙ ap (λ b. latchOf b (held t) (eqb (cond (held t) (wait t) (left ts - 1)) 0)) (sym (left-waits ts))
+      where
+        some-left : (n : ℕ) (b : Bool) → ltb 0 (n - 1) ≡ b → b ≡ (ltb 0 n && not (eqb (n - 1) 0))
+        some-left n true e =
+            let l = ltb-true 0 (n - 1) e in
+            rw (lt-ltb 0 n (omega arith), ne-eqb (n - 1) 0 (λ z. omega arith)) refl
+        some-left n false e = rw (eq-eqb (n - 1) 0 (omega (arith, ltb-false))) (sym (and-false (ltb 0 n)))
+
+        go : (a : Bool) (n : ℕ) → ltb 0 (cond a (wait t) (n - 1)) ≡ latchOf (ltb 0 n) a (eqb (cond a (wait t) (n - 1)) 0)
+        go true n = lt-ltb 0 (wait t) some
+        go false n = some-left n (ltb 0 (n - 1)) refl
+
+abbrev pub guardAt : List Deed → Guard
+guardAt h = record { latched = latchedAt h; waits = waitsAt h }
+
+pub guard-next : (cells : List ℕ) (r : Readings) (h : List Deed) → 1 ≤ settingsAt h .r332
+    → guardAt (took cells r ∷ h) ≡ guardOf (guardAt h) (settingsAt h) r (extremesOf cells)
+unfolding guardOf latchedAt waitsAt latchedOf waitsOf recoversOf
+guard-next cells r h some =
+    let m : Moment = momentOf (settingsAt h) (cells, r) in
+    let ms = momentsAt h in
+    let long : 1 ≤ 10 * (settingsAt h .r332) = omega arith in
+    λ i. record {
+      latched =
+          record {
+            uv = stands-next (λ m. holds m .uv) (λ m. cellsHighEnough (m .settings) (extremesOf (m .cells))) m ms i;
+            ov = stands-next (λ m. holds m .ov) (λ m. cellsLowEnough (m .settings) (extremesOf (m .cells))) m ms i;
+            ot = stands-next (λ m. holds m .ot) (λ m. sensorsCool (m .settings) (m .readings)) m ms i;
+            doc = waits-next (λ m. holds m .doc) waitOf m ms long i;
+            coc = waits-next (λ m. holds m .coc) waitOf m ms long i;
+            roc = waits-next (λ m. holds m .roc) waitOf m ms long i;
+            lt = stands-next (λ m. holds m .lt) (λ m. externalsMild (m .settings) (m .readings)) m ms i;
+          };
+      waits =
+          record {
+            doc = left-next (λ m. holds m .doc) waitOf m ms i;
+            coc = left-next (λ m. holds m .coc) waitOf m ms i;
+            roc = left-next (λ m. holds m .roc) waitOf m ms i;
+          };
+    }
+
+-- ---- the window
+pub window-next : (cells : List ℕ) (r : Readings) (h : List Deed) → windowAt (took cells r ∷ h) ≡ shifted (windowAt h) (r .pulses)
+unfolding windowAt
+window-next cells r h = sym (pushed 9 0 (r .pulses) (map (λ t. t .1 .pulses) (each ticking (since hands h))))
+
+-- ---- events: one after the other, each behind its test
+abbrev eventsOf : List Event → List Event → Events
+eventsOf ks us = record { list = latest capacity noEvent ks; kept = min capacity (length ks); unsent = min capacity (length us) }
+
+module _ (seconds : ℕ) where
+  abbrev add : Events → ℕ → Events
+  add e number = addOf e seconds number
+
+  abbrev pub noted : Events → ℕ → Events
+  noted e number = cond (eqb number 0) e (add e number)
+
+  added : (ns : List ℕ) (ks us : List Event) → eventsOf (map (eventAt seconds) ns ++ ks) (map (eventAt seconds) ns ++ us) ≡ pour add (eventsOf ks us) ns
+  unfolding addOf
+  added [] ks us = refl
+  added (n ∷ ns) ks us = one (map (eventAt seconds) ns ++ ks) (map (eventAt seconds) ns ++ us) ∙ ap (λ e. add e n) (added ns ks us)
+    where
+      one : (ks us : List Event) → eventsOf (eventAt seconds n ∷ ks) (eventAt seconds n ∷ us) ≡ addOf (eventsOf ks us) seconds n
+      one ks us =
+          let up : (m : ℕ) → min 48 (suc m) ≡ min 48 (min 48 m + 1) = λ m. omega arith in
+          λ i. record { list = sym (pushed 47 noEvent (eventAt seconds n) ks) i; kept = up (length ks) i; unsent = up (length us) i }
+
+  -- rigid, so that the lists are inferred
+  record Noted (e : Events) (ns : List ℕ) (e₁ : Events) : Type 0 where
+    is : e₁ ≡ pour add e ns
+
+  law : (e : Events) (n : ℕ) → Noted e (someEvent n) (noted e n)
+  law e n = go (eqb n 0)
+    where
+      go : (t : Bool) → Noted e (cond t [] (n ∷ [])) (cond t e (add e n))
+      go true = record { is = refl }
+      go false = record { is = refl }
+
+  then : {e e₁ e₂ : Events} {ns ms : List ℕ} → Noted e ns e₁ → Noted e₁ ms e₂ → Noted e (ms ++ ns) e₂
+  then {e} {e₁} {e₂} {ns} {ms} p q = record { is = q .is ∙ ap (λ (k : Events). pour add k ms) (p .is) ∙ sym (pour-append add e ms ns) }
+
+  -- what a tick notes: the charger's event, then the conditions in the table's order
+  abbrev pub tickNoted : Conditions → Conditions → Bool → Bool → Events → Events
+  tickNoted before after was now e =
+      noted (noted (noted (noted (noted (noted (noted (noted e (chargerEvent was now)) (eventOf before after UV)) (eventOf before after OV)) (eventOf before after OT)) (eventOf before after DOC)) (eventOf before after COC)) (eventOf before after ROC)) (eventOf before after LT)
+
+  chain : (before after : Conditions) (was now : Bool) (e : Events) → tickNoted before after was now e ≡ pour add e (numbersOf before after was now)
+  chain before after was now e =
+      let next : (e : Events) (c : Condition) → Noted e (someEvent (eventOf before after c)) (noted e (eventOf before after c)) = λ e c. law e (eventOf before after c) in
+      (then (law e (chargerEvent was now)) (then (next _ UV) (then (next _ OV) (then (next _ OT) (then (next _ DOC) (then (next _ COC) (then (next _ ROC) (next _ LT)))))))) .is
+
+pub events-next : (cells : List ℕ) (r : Readings) (h : List Deed)
+    → eventsAt (took cells r ∷ h) ≡ tickNoted (secondsAt (took cells r ∷ h)) (latchedAt h) (latchedAt (took cells r ∷ h)) (chargerAt h) (r .charger) (eventsAt h)
+unfolding eventsAt
+events-next cells r h =
+    let s = secondsAt (took cells r ∷ h) in
+    let ns = numbersOf (latchedAt h) (latchedAt (took cells r ∷ h)) (chargerAt h) (r .charger) in
+    ap (λ (es : List Event). eventsOf (es ++ keptSince h) (es ++ newSince h)) (append-nil (map (eventAt s) ns))
+    ∙ added s ns (keptSince h) (newSince h)
+    ∙ sym (chain s (latchedAt h) (latchedAt (took cells r ∷ h)) (chargerAt h) (r .charger) (eventsAt h))
+
+-- ---- statistics
+external-next : (x : ℤ) (ts : List ℤ) → temperaturesOf (cond (connected x) (x ∷ []) [] ++ ts) ≡ withExternal (temperaturesOf ts) x
+external-next x ts = go (connected x) ts
+  where
+    go : (t : Bool) (ts : List ℤ) → temperaturesOf (cond t (x ∷ []) [] ++ ts)
+        ≡ record {
+          coldest = cond t (cond (seenOf ts) (lowerOf x (coldestOf ts)) x) (coldestOf ts);
+          hottest = cond t (cond (seenOf ts) (higherOf (hottestOf ts) x) x) (hottestOf ts);
+          seen = seenOf ts || t;
+        }
+    go true [] = refl
+    go true (y ∷ ys) = refl
+    go false ts = λ i. record { coldest = coldestOf ts; hottest = hottestOf ts; seen = sym (or-false (seenOf ts)) i }
+
+temperatures-next : (t : List ℕ × Readings) (ts : List ℤ) → temperaturesOf (externals t ++ ts) ≡ withExternal (withExternal (temperaturesOf ts) (t .1 .external1)) (t .1 .external2)
+temperatures-next t ts =
+    let first : List ℤ = cond (connected (t .1 .external1)) (t .1 .external1 ∷ []) [] in
+    ap temperaturesOf (append-assoc (cond (connected (t .1 .external2)) (t .1 .external2 ∷ []) []) first ts)
+    ∙ external-next (t .1 .external2) (first ++ ts)
+    ∙ ap (λ (u : Temperatures). withExternal u (t .1 .external2)) (external-next (t .1 .external1) ts)
+
+counted : (t : Bool) (n : ℕ) → min 65535 (bitOf t + n) ≡ countOf (min 65535 n) t
+counted true n = omega arith
+counted false n = omega arith
+
+counted-twice : (t u : Bool) (n m : ℕ) → min 65535 ((bitOf t + n) + (bitOf u + m)) ≡ countOf (countOf (min 65535 (n + m)) t) u
+counted-twice true true n m = omega arith
+counted-twice true false n m = omega arith
+counted-twice false true n m = omega arith
+counted-twice false false n m = omega arith
+
+larger : (x : ℕ) (xs : List ℕ) → largest (x ∷ xs) ≡ max (largest xs) x
+larger x xs = omega arith
+
+pub statistics-next : (cells : List ℕ) (r : Readings) (h : List Deed)
+    → statisticsAt (took cells r ∷ h)
+    ≡ countedOf (riddenOf (statisticsAt h) (r .pulses)) r (extremesOf cells) (latchedAt h) (latchedAt (took cells r ∷ h)) (eqb (statusAt (took cells r ∷ h)) 0x91 && not (eqb (statusAt h) 0x91))
+unfolding statisticsAt countedOf riddenOf countsOf is
+statistics-next cells r h =
+    let after = latchedAt (took cells r ∷ h) in
+    let before = latchedAt h in
+    let ts = each ticking (since clears h) in
+    let ridden : min 281474976710656 (r .pulses + pulsesAt h) ≡ min 281474976710656 (min 281474976710656 (pulsesAt h) + r .pulses) = omega arith in
+    λ i. record {
+      temperatures = temperatures-next (cells, r) (each externals ts) i;
+      counts =
+          record {
+            uv = counted (after .uv && not (before .uv)) (latchings UV h) i;
+            ov = counted (after .ov && not (before .ov)) (latchings OV h) i;
+            doc = counted (after .doc && not (before .doc)) (latchings DOC h) i;
+            charge = counted-twice (after .coc && not (before .coc)) (after .roc && not (before .roc)) (latchings COC h) (latchings ROC h) i;
+            ot = counted (after .ot && not (before .ot)) (latchings OT h) i;
+            charging = counted (eqb (statusAt (took cells r ∷ h)) 0x91 && not (eqb (statusAt h) 0x91)) (count (λ yes. yes) (each entering (since clears h))) i;
+          };
+      pulses = ridden i;
+      drawn = larger (hundreds (below (r .current))) (map (λ t. hundreds (below (t .1 .current))) ts) i;
+      fed = larger (hundreds (above (r .current))) (map (λ t. hundreds (above (t .1 .current))) ts) i;
+      difference = larger (extremesOf cells .highest - extremesOf cells .lowest) (map (λ t. extremesOf (t .0) .highest - extremesOf (t .0) .lowest) ts) i;
+      cleared = secondsAt (from clears h);
+    }

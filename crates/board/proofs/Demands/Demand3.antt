@@ -1,0 +1,120 @@
+-- Demand 3. Two boards that agree on what a handover keeps (or that went through 300 quiet ticks) answer everything alike ever after:
+-- what one rider did shows to no later one. It holds of our board, and of every board that meets demand 2.
+-- Assumes nothing.
+use mathlib.Core.Path.{_≡_, refl, sym, ap, _∙_}
+use mathlib.Core.Bool.{Bool, true, false}
+use mathlib.Core.Logic.{inl, inr}
+use mathlib.Core.List.{List, [], _∷_, _++_}
+use Prim.Native.Nat.{ℕ, _/_, _%_, min}
+use lib.ListN.{length, drop}
+use Rattle.board.specs.declared.Board.{Board}
+use Rattle.pack.specs.declared.Pack.{Pack}
+use Rattle.board.specs.State.{usable}
+use Rattle.board.specs.Start.{startBoard}
+use Rattle.hire.specs.Hire.{newHire}
+use Rattle.board.specs.Tick.{tickOf}
+use Rattle.pack.specs.Pack.{newPack, tickNumber}
+use Rattle.board.specs.Handover.{handoverOf, handedOver}
+use Rattle.board.specs.Frames.{frameBoard}
+use Rattle.board.specs.Calls.{Call, tick, frame, handover, step}
+use Rattle.board.specs.Behaviour.{Behaviour, board, afterIn, answersIn}
+use Rattle.board.specs.Account.{Deed, boardAt, clockAt, secondsAt, countAt}
+use Rattle.board.specs.Demands.{deeds, BothQuiet, SameKept, Demand2, Demand3}
+use Rattle.board.proofs.Demands.QuietTicks.{stilled}
+use Rattle.board.proofs.Demands.Demand2.{account, demand2}
+
+-- ---- a board that is not usable stays as it is
+
+unusable : (b : Board) (c : Call) → usable b ≡ false → step b c .0 ≡ b
+unfolding step tickOf tickNumber frameBoard handoverOf
+unusable b (tick cells r) e = rw e refl
+unusable b (frame s room) e = rw e refl
+unusable b handover e = rw e refl
+
+stays : (b : Board) (cs : List Call) → usable b ≡ false → afterIn board b cs ≡ b
+unfolding afterIn
+stays b [] e = refl
+stays b (c ∷ cs) e = ap (λ x. afterIn board x cs) (unusable b c e) ∙ stays b cs e
+
+-- ---- the board after a handover is made of its pack
+
+handed-on : Pack → Board
+handed-on p = record { pack = p; hire = newHire (p .clock .seconds) }
+
+handed : (b : Board) → usable b ≡ true → afterIn board b (handover ∷ []) ≡ handed-on (b .pack)
+unfolding afterIn step handoverOf handedOver handed-on
+handed b e = rw e refl
+
+module _ (B : Behaviour) where
+  after-append : (s : B .State) (xs ys : List Call) → afterIn B s (xs ++ ys) ≡ afterIn B (afterIn B s xs) ys
+  unfolding afterIn
+  after-append s [] ys = refl
+  after-append s (x ∷ xs) ys = after-append (B .step s x .0) xs ys
+
+  answers-after : (s : B .State) (xs zs : List Call) → drop (length xs) (answersIn B s (xs ++ zs)) ≡ answersIn B (afterIn B s xs) zs
+  unfolding afterIn answersIn
+  answers-after s [] zs = refl
+  answers-after s (x ∷ xs) zs = answers-after (B .step s x .0) xs zs
+
+-- ---- what is kept makes the pack
+
+kept-pack : (cells perKm : ℕ) (h k : List Deed) → SameKept h k → boardAt cells perKm h .pack ≡ boardAt cells perKm k .pack
+unfolding boardAt
+kept-pack cells perKm h k e =
+    λ i. record { settings = e .settings i; guard = record { latched = e .latched i; waits = e .waits i }; clock = e .clock i; cells = cells; «per_km» = perKm }
+
+kept-usable : (cells perKm : ℕ) (h : List Deed) → usable (boardAt cells perKm h) ≡ usable (startBoard cells perKm)
+unfolding boardAt startBoard newPack
+kept-usable cells perKm h = refl
+
+same-clock : (h k : List Deed) → countAt h ≡ countAt k → clockAt h ≡ clockAt k
+unfolding clockAt secondsAt
+same-clock h k e = λ i. record { seconds = min 4294967295 (e i / 10); tenths = min 42949672959 (e i) % 10 }
+
+module _ (cells perKm : ℕ) (xs ys : List Call) where
+  both-quiet : BothQuiet (deeds cells perKm xs) (deeds cells perKm ys) → SameKept (deeds cells perKm xs) (deeds cells perKm ys)
+  both-quiet q =
+      let x = stilled cells perKm xs (q .first) in
+      let y = stilled cells perKm ys (q .second) in
+      record {
+        settings = q .settings;
+        clock = same-clock _ _ (q .ticks);
+        latched = x .0 ∙ sym (y .0);
+        waits = x .1 ∙ sym (y .1);
+      }
+
+  same : SameKept (deeds cells perKm xs) (deeds cells perKm ys)
+      → afterIn board (startBoard cells perKm) (xs ++ (handover ∷ [])) ≡ afterIn board (startBoard cells perKm) (ys ++ (handover ∷ []))
+  same e = go (usable (startBoard cells perKm)) refl
+    where
+      b : Board
+      b = startBoard cells perKm
+
+      packs : afterIn board b xs .pack ≡ afterIn board b ys .pack
+      packs = ap (λ (x : Board). x .pack) (account cells perKm xs) ∙ kept-pack cells perKm (deeds cells perKm xs) (deeds cells perKm ys) e ∙ sym (ap (λ (x : Board). x .pack) (account cells perKm ys))
+
+      still-usable : (cs : List Call) → usable b ≡ true → usable (afterIn board b cs) ≡ true
+      still-usable cs u = ap usable (account cells perKm cs) ∙ kept-usable cells perKm (deeds cells perKm cs) ∙ u
+
+      last : (cs : List Call) → usable b ≡ true → afterIn board b (cs ++ (handover ∷ [])) ≡ handed-on (afterIn board b cs .pack)
+      last cs u = after-append board b cs (handover ∷ []) ∙ handed (afterIn board b cs) (still-usable cs u)
+
+      go : (t : Bool) → usable b ≡ t → afterIn board b (xs ++ (handover ∷ [])) ≡ afterIn board b (ys ++ (handover ∷ []))
+      go true u = last xs u ∙ ap handed-on packs ∙ sym (last ys u)
+      go false u = stays b (xs ++ (handover ∷ [])) u ∙ sym (stays b (ys ++ (handover ∷ [])) u)
+
+pub demand3 : Demand3 board
+demand3 cells perKm xs ys zs (inl q) = ap (λ b. answersIn board b zs) (same cells perKm xs ys (both-quiet cells perKm xs ys q))
+demand3 cells perKm xs ys zs (inr e) = ap (λ b. answersIn board b zs) (same cells perKm xs ys e)
+
+-- every board that meets demand 2 answers as ours does
+module _ (B : Behaviour) (meets : Demand2 B) where
+  alike : (cells perKm : ℕ) (xs zs : List Call)
+      → answersIn B (afterIn B (B .start cells perKm) xs) zs ≡ answersIn board (afterIn board (startBoard cells perKm) xs) zs
+  alike cells perKm xs zs =
+      sym (answers-after B (B .start cells perKm) xs zs)
+      ∙ ap (drop (length xs)) (meets cells perKm (xs ++ zs) ∙ sym (demand2 cells perKm (xs ++ zs)))
+      ∙ answers-after board (startBoard cells perKm) xs zs
+
+  pub meets-demand3 : Demand3 B
+  meets-demand3 cells perKm xs ys zs k = alike cells perKm _ zs ∙ demand3 cells perKm xs ys zs k ∙ sym (alike cells perKm _ zs)

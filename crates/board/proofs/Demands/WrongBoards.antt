@@ -1,0 +1,139 @@
+-- The demands shut out wrong boards. Demand 2: a board that NACKs everything, one that always replies idle, one that answers its first
+-- frame and repeats it, statistics with invented counts. Demand 3: a handover that does nothing. Some of the first look the same
+-- for two riders: the ones that NACK everything or reply idle meet demand 3, so demand 3 is stated of boards that meet demand 2.
+-- Assumes nothing.
+use mathlib.Core.Path.{_≡_, refl, ap}
+use mathlib.Core.Bool.{Bool, true, false}
+use mathlib.Core.Logic.{inr}
+use mathlib.Core.List.{List, [], _∷_}
+use Prim.Native.Nat.{ℕ}
+use native.Mathlib.Omega.{arith}
+use lib.IntN.{pos}
+use lib.ListN.{getD, replicate}
+use Rattle.statistics.specs.declared.Statistics.{Statistics}
+use Rattle.board.specs.declared.Board.{Board}
+use Rattle.board.specs.State.{withStatistics}
+use Rattle.board.specs.Start.{startBoard}
+use Rattle.board.specs.Handover.{handoverOf}
+use Rattle.wire.specs.Wire.{padded, sealed, nackOf}
+use Rattle.board.specs.Calls.{Call, Seen, seen, tick, frame, handover, step}
+use Rattle.board.specs.Behaviour.{Behaviour}
+use Rattle.board.specs.Demands.{Demand2, Demand3}
+use Rattle.board.proofs.Facts.Opened.{accounted}
+
+-- ---- requests, and what is looked at in the answers
+
+abbrev status : Call
+status = frame (0xAA ∷ 0x18 ∷ 0x7F ∷ 0x1A ∷ []) 259
+
+abbrev events : Call
+events = frame (0xAA ∷ 0x12 ∷ 0xFF ∷ 0x1D ∷ []) 259
+
+-- register 105, UV latchings
+abbrev latchings : Call
+latchings = frame (0xAA ∷ 0x03 ∷ 0x00 ∷ 0x69 ∷ 0x00 ∷ 0x01 ∷ 0x4D ∷ 0xCD ∷ []) 259
+
+-- what is seen of a board that shows no switch and no bit
+abbrev says : ℕ → List ℕ → Seen
+says number buffer = record { number = number; buffer = buffer; charge = false; discharge = false; decision = 0; balancing = 0 }
+
+-- the n-th answer's number, and a byte of its reply
+abbrev numberAt : ℕ → List Seen → ℕ
+numberAt n answers = getD answers n (says 0 []) .number
+
+abbrev byteAt : ℕ → ℕ → List Seen → ℕ
+byteAt n i answers = getD (getD answers n (says 0 []) .buffer) i 0
+
+-- ---- every frame gets a NACK
+
+abbrev nacks : Call → Seen
+nacks (tick cells r) = says 0 []
+nacks (frame s room) = says 4 (padded room (sealed (nackOf (getD s 1 0) 0x00)))
+nacks handover = says 0 []
+
+abbrev pub nacking : Behaviour
+nacking = record { State = Unit {0}; start = λ cells perKm. tt; step = λ s c. (s, nacks c) }
+
+pub nacking-fails : ¬ Demand2 nacking
+unfolding accounted
+nacking-fails h = let z : _≡_ {A = ℕ} 4 0 = ap (numberAt 0) (h 4 2000 (status ∷ [])) in omega arith
+
+-- but it shows nothing of an earlier rider
+pub nacking-forgets : Demand3 nacking
+nacking-forgets cells perKm xs ys zs k = refl
+
+-- ---- every frame gets the idle reply
+
+abbrev idles : Call → Seen
+idles (tick cells r) = says 0 []
+idles (frame s room) = says 0 (padded room (0xAA ∷ 0x18 ∷ 0x97 ∷ 0x00 ∷ 0xCF ∷ 0xCB ∷ []))
+idles handover = says 0 []
+
+abbrev pub idling : Behaviour
+idling = record { State = Unit {0}; start = λ cells perKm. tt; step = λ s c. (s, idles c) }
+
+pub idling-fails : ¬ Demand2 idling
+unfolding accounted
+idling-fails h = let z : _≡_ {A = ℕ} 0x18 0x12 = ap (byteAt 0 1) (h 4 2000 (events ∷ [])) in omega arith
+
+pub idling-forgets : Demand3 idling
+idling-forgets cells perKm xs ys zs k = refl
+
+-- ---- the first frame is answered, and its answer repeated
+
+abbrev repeats : Board × List Seen → Call → (Board × List Seen) × Seen
+repeats (b, first) (tick cells r) = ((step b (tick cells r) .0, first), step b (tick cells r) .1)
+repeats (b, []) (frame s room) = ((step b (frame s room) .0, step b (frame s room) .1 ∷ []), step b (frame s room) .1)
+repeats (b, a ∷ rest) (frame s room) = ((b, a ∷ rest), a)
+repeats (b, first) handover = ((step b handover .0, first), step b handover .1)
+
+abbrev pub repeating : Behaviour
+repeating = record { State = Board × List Seen; start = λ cells perKm. (startBoard cells perKm, []); step = repeats }
+
+pub repeating-fails : ¬ Demand2 repeating
+unfolding accounted
+repeating-fails h = let z : _≡_ {A = ℕ} 0x18 0x12 = ap (byteAt 1 1) (h 4 2000 (status ∷ events ∷ [])) in omega arith
+
+-- ---- statistics begin with a UV latching that never was
+
+abbrev invented : Statistics → Statistics
+invented s =
+    record {
+      temperatures = s .temperatures;
+      counts = record { uv = 1; ov = s .counts .ov; doc = s .counts .doc; charge = s .counts .charge; ot = s .counts .ot; charging = s .counts .charging };
+      pulses = s .pulses;
+      drawn = s .drawn;
+      fed = s .fed;
+      difference = s .difference;
+      cleared = s .cleared;
+    }
+
+abbrev pub inventing : Behaviour
+inventing = record { State = Board; start = λ cells perKm. withStatistics (startBoard cells perKm) (invented (startBoard cells perKm .hire .statistics)); step = step }
+
+pub inventing-fails : ¬ Demand2 inventing
+unfolding accounted
+inventing-fails h = let z : _≡_ {A = ℕ} 1 0 = ap (byteAt 0 4) (h 4 2000 (latchings ∷ [])) in omega arith
+
+-- ---- a handover does nothing
+
+abbrev keeps : Board → Call → Board × Seen
+keeps b (tick cells r) = step b (tick cells r)
+keeps b (frame s room) = step b (frame s room)
+keeps b handover = (b, seen (record { number = handoverOf b .number; board = b }) [])
+
+abbrev pub keeping : Behaviour
+keeping = record { State = Board; start = startBoard; step = keeps }
+
+-- a quiet tick, with or without the charger
+abbrev rides : Bool → Call
+rides charger =
+    tick (replicate 4 37000) (record { current = pos 0; internal = pos 200; external1 = pos 200; external2 = pos 200; pulses = 0; charger = charger; ignition = false })
+
+-- of two riders one had a charger: the next rider's list of events says which
+pub keeping-fails : ¬ Demand3 keeping
+unfolding accounted
+keeping-fails h =
+    let e = h 4 2000 (rides true ∷ []) (rides false ∷ []) (events ∷ []) (inr (record { settings = refl; clock = refl; latched = refl; waits = refl })) in
+    let z : _≡_ {A = ℕ} 8 4 = ap (byteAt 0 2) e in
+    omega arith

@@ -1,0 +1,40 @@
+-- Says nothing: `unfolding steps` opens the steps of a tick down to the parts of the board; `unfolding opened` all that a call goes
+-- through, the CRC included, so that a call on a given board computes; `unfolding accounted` also the account from a history of calls.
+-- Assumes nothing.
+use Rattle.laws.specs.Fold.{shifted, packed}
+use Rattle.crc.specs.Crc as crc
+use Rattle.events.specs.Events as events
+use Rattle.guard.specs.Guard.{holdsOf, waitsOf, recoversOf, latchedOf, guardOf}
+use Rattle.guard.specs.Table.{is, chargeOff, dischargeOff, faulty, latchEvent, recoveryEvent, eventOf}
+use Rattle.live.specs.Live as live
+use Rattle.readings.specs.Readings as readings
+use Rattle.settings.specs.Settings as settings
+use Rattle.signed.specs.Signed as signed
+use Rattle.statistics.specs.Statistics as statistics
+use Rattle.hire.specs.Hire.{newHire}
+use Rattle.board.specs.Start.{startBoard}
+use Rattle.hire.specs.Tick.{readingsOf, speedAndDistanceOf, chargerOf, conditionsRecorded, conditionEventsOf, statusFor, statusOf, balancingOf, statisticsOf, switchesOf}
+use Rattle.pack.specs.Pack.{newPack, laterOf, timeOf, conditionsOf, tickNumber}
+use Rattle.board.specs.Tick.{readingsKept, timePassed, ridden, chargerSeen, guarded, recorded, statusSet, balanced, counted, switched, sensed, watched, acted, tickedOf, tickOf}
+use Rattle.hire.specs.Registers.{liveRegister}
+use Rattle.board.specs.Registers.{shownAt}
+use Rattle.board.specs.Handover.{handedOver, handoverOf}
+use Rattle.wire.specs.Wire.{words, sealed, padded}
+use Rattle.requests.specs.Requests.{expectedOf, clearOf, blockOf, writeOf, kindOf, settingsOf, fieldsOf, askedOf, requestOf, refusalNumber, commandOf, draftedOf, marks}
+use Rattle.board.specs.Frames.{valueAt, bodyOf, payloadOf, requestNumber, changedBy, requestBoard, refusalReply, writeReply, queryReply, requestReply, frameNumber, frameBoard, frameReply}
+use Rattle.board.specs.Calls.{step}
+use Rattle.board.specs.Behaviour.{afterIn, answersIn}
+use Rattle.board.specs.Account.{settingsAt, secondsAt, clockAt, latchedAt, waitsAt, sensedAt, windowAt, chargerAt, statusAt, decisionAt, balancingAt, chargeAt, dischargeAt, eventsAt, statisticsAt, boardAt, requestDeed, deedOf, deedsOf}
+use Rattle.board.specs.Demands.{told, toldAll}
+
+unfoldable pub steps : Unit {0}
+unfolding tickedOf sensed watched acted readingsKept timePassed ridden chargerSeen guarded recorded statusSet balanced counted switched readingsOf timeOf speedAndDistanceOf chargerOf conditionsOf conditionsRecorded conditionEventsOf statusOf balancingOf statisticsOf switchesOf
+steps = tt
+
+unfoldable pub opened : Unit {0}
+unfolding shifted packed crc.crcOf crc.byteIn crc.times crc.shiftedOut events.latest events.noEvents events.addOf events.sentOf holdsOf waitsOf recoversOf latchedOf guardOf is chargeOff dischargeOff faulty latchEvent recoveryEvent eventOf live.bitsOf live.speedBitsOf readings.judgedOf readings.numberOf settings.ofKind settings.registerOf settings.listed settings.withOf settings.noneBelow settings.inRange settings.ordered settings.judgedOf settings.numberOf settings.putOf settings.verdictOf settings.standingOf signed.bitsOf signed.fromBits signed.degreesOf statistics.distanceOf statistics.countsOf statistics.temperaturesShown statistics.riddenOf statistics.countedOf statistics.clearedAt statistics.registerOf newHire newPack startBoard steps laterOf statusFor tickNumber tickOf liveRegister shownAt handedOver handoverOf words sealed padded expectedOf clearOf blockOf writeOf kindOf settingsOf fieldsOf askedOf requestOf valueAt bodyOf payloadOf commandOf marks refusalNumber draftedOf requestNumber changedBy requestBoard refusalReply writeReply queryReply requestReply frameNumber frameBoard frameReply step afterIn answersIn
+opened = tt
+
+unfoldable pub accounted : Unit {0}
+unfolding opened settingsAt secondsAt clockAt latchedAt waitsAt sensedAt windowAt chargerAt statusAt decisionAt balancingAt chargeAt dischargeAt eventsAt statisticsAt boardAt requestDeed deedOf deedsOf told toldAll
+accounted = tt

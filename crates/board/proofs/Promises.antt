@@ -1,0 +1,83 @@
+-- Each public call's promise determines its number, the state and every byte lent to it, refusals too: any two results allowed by it
+-- are equal. And what it determines is the behaviour's step.
+-- Assumes nothing.
+use mathlib.Core.Path.{_≡_, sym, _∙_}
+use mathlib.Core.Bool.{Bool}
+use mathlib.Core.List.{List, []}
+use Prim.Native.Nat.{ℕ, _≤_}
+use lib.ListN.{length}
+use Rattle.events.specs.declared.Event.{Event}
+use Rattle.events.specs.Events.{capacity, keptCount, newCount, keptOf, newOf, placed}
+use Rattle.readings.specs.declared.Readings.{Readings}
+use Rattle.board.specs.declared.Board.{Board}
+use Rattle.board.specs.declared.Answer.{Answer}
+use Rattle.board.specs.declared.Shown.{Shown}
+use Rattle.board.specs.Start.{startOf}
+use Rattle.board.specs.Tick.{tickOf}
+use Rattle.board.specs.Handover.{handoverOf}
+use Rattle.board.specs.Registers.{shownAt}
+use Rattle.board.specs.Frames.{Frames}
+use Rattle.board.specs.Calls.{Seen, seen, framed, step, tick, frame, handover}
+
+-- any two results that a promise allows are equal
+abbrev pub Determines : (A : Type 0) → (A → Type 0) → Type 0
+Determines A promise = (r r′ : A) → promise r → promise r′ → r ≡ r′
+
+equal : {A : Type 0} (x : A) → Determines A (λ r. r ≡ x)
+equal x r r′ p q = p ∙ sym q
+
+-- the answer and the buffer of a frame
+answered : (b : Board) (s before : List ℕ) (r : Answer) (after : List ℕ) → Frames b s before r after → r ≡ framed b s (length before)
+answered b s before r after f = λ i. record { number = f .number i; board = f .board i }
+
+-- the public calls, and what is read off a board
+pub record Promises : Type 0 where
+  pub start : (cells perKm : ℕ) → Determines Answer (λ r. r ≡ startOf cells perKm)
+  pub ticked : (b : Board) (cells : List ℕ) (rd : Readings) → Determines Answer (λ r. r ≡ tickOf b cells rd)
+  pub framed : (b : Board) (s before : List ℕ) (r r′ : Answer) (after after′ : List ℕ)
+      → Frames b s before r after → Frames b s before r′ after′ → (r ≡ r′) × (after ≡ after′)
+  pub handed : (b : Board) → Determines Answer (λ r. r ≡ handoverOf b)
+  pub register : (b : Board) (at : ℕ) → Determines Shown (λ r. r ≡ shownAt b at)
+  pub charge : (b : Board) → Determines Bool (λ r. r ≡ b .hire .charge)
+  pub discharge : (b : Board) → Determines Bool (λ r. r ≡ b .hire .discharge)
+  pub decision : (b : Board) → Determines ℕ (λ r. r ≡ b .hire .decision)
+  pub balancing : (b : Board) → Determines ℕ (λ r. r ≡ b .hire .balancing)
+  pub lifetime : (b : Board) → Determines ℕ (λ r. r ≡ b .pack .clock .seconds)
+  pub keptCounted : (b : Board) → Determines ℕ (λ r. (r ≡ keptCount (b .hire .events)) × (r ≤ capacity))
+  pub keptEvent : (b : Board) (n : ℕ) → Determines Event (λ r. r ≡ placed (keptOf (b .hire .events)) n)
+  pub newCounted : (b : Board) → Determines ℕ (λ r. (r ≡ newCount (b .hire .events)) × (r ≤ capacity))
+  pub newEvent : (b : Board) (n : ℕ) → Determines Event (λ r. r ≡ placed (newOf (b .hire .events)) n)
+
+pub tight : Promises
+tight =
+    record {
+      start = λ cells perKm. equal _;
+      ticked = λ b cells rd. equal _;
+      framed = λ b s before r r′ after after′ f g. (equal _ r r′ (answered b s before r after f) (answered b s before r′ after′ g), equal _ after after′ (f .reply) (g .reply));
+      handed = λ b. equal _;
+      register = λ b at. equal _;
+      charge = λ b. equal _;
+      discharge = λ b. equal _;
+      decision = λ b. equal _;
+      balancing = λ b. equal _;
+      lifetime = λ b. equal _;
+      keptCounted = λ b r r′ p q. equal _ r r′ (p .0) (q .0);
+      keptEvent = λ b n. equal _;
+      newCounted = λ b r r′ p q. equal _ r r′ (p .0) (q .0);
+      newEvent = λ b n. equal _;
+    }
+
+-- ---- a result that a promise allows is the behaviour's step
+
+pub tick-steps : (b : Board) (cells : List ℕ) (rd : Readings) (r : Answer) → r ≡ tickOf b cells rd → _≡_ {A = Board × Seen} (r .board, seen r []) (step b (tick cells rd))
+unfolding step
+tick-steps b cells rd r p = λ i. (p i .board, seen (p i) [])
+
+pub handover-steps : (b : Board) (r : Answer) → r ≡ handoverOf b → _≡_ {A = Board × Seen} (r .board, seen r []) (step b handover)
+unfolding step
+handover-steps b r p = λ i. (p i .board, seen (p i) [])
+
+pub frame-steps : (b : Board) (s before : List ℕ) (r : Answer) (after : List ℕ)
+    → Frames b s before r after → _≡_ {A = Board × Seen} (r .board, seen r after) (step b (frame s (length before)))
+unfolding step
+frame-steps b s before r after f = let p = answered b s before r after f in λ i. (p i .board, seen (p i) (f .reply i))

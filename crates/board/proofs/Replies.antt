@@ -1,0 +1,137 @@
+-- A query is answered as the definition says: what is sent for it, word by word, are the bytes of its reply; and every reply has room
+-- in 259 bytes. Assumes nothing.
+use mathlib.Core.Bool.{Bool, true, false, cond}
+use mathlib.Core.Path.{_≡_, refl, ap, _∙_, sym}
+use mathlib.Core.List.{List, [], _∷_, _++_, append-assoc}
+use Prim.Native.Nat.{ℕ, zero, suc, _+_, _*_, _/_, _%_, _≤_, _<_}
+use native.Mathlib.Nat.{zero-add}
+use native.Mathlib.Omega.{arith}
+use lib.ListN.{length, take, length-append}
+use lib.Dec.{eqb}
+use borrow.Author.Tests.{lt-ltb, le-ltb, ltb-false}
+use Rattle.events.specs.Events.{newCount, keptCount, keptOf, newOf, eventLongs}
+use Rattle.settings.specs.Settings as settings
+use Rattle.board.specs.declared.Board.{Board}
+use Rattle.requests.specs.declared.Query.{Query}
+use Rattle.requests.specs.declared.Query.the-variants.{Registers, Live, NewEvents, AllEvents, Temperatures, Cells, SettingsOf}
+use Rattle.requests.specs.declared.Refusal.the-variants.{Foreign, Damaged, Against}
+use Rattle.requests.specs.declared.Request.{Request}
+use Rattle.requests.specs.declared.Request.the-variants as request
+use Rattle.wire.specs.Wire.{le16, be16, le32, word16, words, sealed, nackOf, Wrote, Filled, Lengthened, lengthByte}
+use Rattle.requests.specs.Requests.{commandOf, hasLength, highFirst, wordCount}
+use Rattle.board.specs.Frames.{valueAt, bodyOf, payloadOf, tooLong, writeNumber, refusalReply, writeReply, queryReply, requestReply}
+use Rattle.board.specs.Replies.{countOf, wordOf, replyOf}
+use Rattle.pairs.specs.Pairs.{halfAt}
+use Rattle.wire.proofs.Writing.{join-at, reply, sealed-length, words-length, length-words}
+
+-- ---- words in a row
+
+-- a row that starts at a place is the row of what stands from there
+shifted : (bytes : ℕ → List ℕ) (f : ℕ → ℕ) (at n : ℕ) → words bytes (λ i. f (at + i)) 0 n ≡ words bytes f at n
+unfolding words
+shifted bytes f at zero = refl
+shifted bytes f at (suc n) = rw (zero-add, shifted bytes f at n)
+
+-- each number of four bytes is its two halves
+halves : (f : ℕ → ℕ) (n : ℕ) → words le16 (halfAt f) 0 (2 * n) ≡ words le32 f 0 n
+unfolding words
+halves f zero = refl
+halves f (suc n) =
+    let twice : 2 * suc n ≡ suc (suc (2 * n)) = omega arith in
+    let even : 2 * n % 2 ≡ 0 = omega arith in
+    let odd : suc (2 * n) % 2 ≡ 1 = omega arith in
+    let low : 2 * n / 2 ≡ n = omega arith in
+    let high : suc (2 * n) / 2 ≡ n = omega arith in
+    rw twice (simp (zero-add, even, odd, low, high, halves f n, append-assoc))
+
+-- the lifetime and n events, after the number of their bytes
+events : (f : ℕ → ℕ) (n : ℕ) → 2 * (2 + 2 * n) ∷ words le16 (halfAt f) 0 (2 + 2 * n) ≡ (4 + 4 * n) ∷ words le32 f 0 (1 + n)
+events f n =
+    let bytes : 2 * (2 + 2 * n) ≡ 4 + 4 * n = omega arith in
+    let twice : 2 + 2 * n ≡ 2 * (1 + n) = omega arith in
+    rw (bytes, twice, halves f (1 + n))
+
+-- ---- what is sent
+
+pub as-sent : (b : Board) (q : Query) → replyOf b q (countOf b q) ≡ bodyOf b q
+unfolding replyOf bodyOf wordCount hasLength highFirst wordOf commandOf words
+as-sent b (Registers at n) = ap (λ (l : List ℕ). 0xAA ∷ 0x03 ∷ 2 * n ∷ l) (shifted be16 (valueAt b) at n)
+as-sent b (Live command at n) = ap (λ (l : List ℕ). 0xAA ∷ command ∷ l) (shifted le16 (valueAt b) at n)
+as-sent b NewEvents = ap (λ (l : List ℕ). 0xAA ∷ 0x11 ∷ l) (events _ (newCount (b .hire .events)))
+as-sent b AllEvents = ap (λ (l : List ℕ). 0xAA ∷ 0x12 ∷ l) (events _ (keptCount (b .hire .events)))
+as-sent b Temperatures = refl
+as-sent b Cells = refl
+as-sent b (SettingsOf kind n) =
+    ap (λ (l : List ℕ). 0xAA ∷ 0x1D ∷ 2 * n ∷ l) (shifted le16 (settings.registerOf (settings.ofKind (b .pack .settings) kind)) 300 n)
+
+-- the words stand after the length byte where there is one
+start : (has : Bool) (n : ℕ) → 2 + length (lengthByte has n) ≡ cond has 3 2
+start true n = refl
+start false n = refl
+
+pub within-three : (has : Bool) → cond has 3 2 ≤ 3
+within-three true = omega arith
+within-three false = omega arith
+
+-- two bytes, the length byte, the words and the end are the reply
+pub sent : (b : Board) (q : Query) (has : Bool) (n : ℕ) {command bytes from to : ℕ} {l₀ l₁ l₂ l₃ l₄ : List ℕ} → has ≡ hasLength q → command ≡ commandOf q → Wrote l₀ 0 (0xAA ∷ command ∷ []) l₁
+    → Lengthened l₁ has bytes from l₂ → Wrote l₂ from (words (word16 (highFirst q)) (wordOf b q) 0 n) l₃ → Filled l₃ (sealed (take to l₃)) l₄ → to ≡ from + 2 * n → bytes ≡ 2 * n
+    → Filled l₀ (sealed (replyOf b q n)) l₄
+unfolding replyOf
+sent b q has n {bytes = bytes} {to = to} h k head byte row end t e =
+    rw (← h, ← k, ← e)
+    (reply {n = to} head (join-at (byte .put) row (start has bytes ∙ sym (byte .place-is))) end
+    (omega (arith, byte .place-is, start has bytes, length-append (lengthByte has bytes) (words (word16 (highFirst q)) (wordOf b q) 0 n), length-words (highFirst q) (wordOf b q) n)))
+
+-- a word is two bytes of data
+pub payload : (b : Board) (q : Query) → payloadOf b q ≡ 2 * countOf b q
+unfolding payloadOf wordCount
+payload b (Registers at n) = refl
+payload b (Live command at n) = refl
+payload b NewEvents = omega arith
+payload b AllEvents = omega arith
+payload b Temperatures = refl
+payload b Cells = refl
+payload b (SettingsOf kind n) = refl
+
+-- more than 127 words are more than 254 bytes
+pub long : (b : Board) (q : Query) {n : ℕ} → n ≡ countOf b q → 127 < n → tooLong b q ≡ true
+long b q {n} e h = rw (payload b q, ← e) (lt-ltb 254 (2 * n) (omega arith))
+
+pub short : (b : Board) (q : Query) {n : ℕ} → n ≡ countOf b q → n ≤ 127 → tooLong b q ≡ false
+short b q {n} e h = rw (payload b q, ← e) (le-ltb 254 (2 * n) (omega arith))
+
+-- ---- a reply has at most 259 bytes
+
+body-length : (b : Board) (q : Query) → length (bodyOf b q) ≤ 3 + payloadOf b q
+unfolding bodyOf payloadOf
+body-length b (Registers at n) = omega (arith, words-length 2 be16 (valueAt b) at n (λ w. refl))
+body-length b (Live command at n) = omega (arith, words-length 2 le16 (valueAt b) at n (λ w. refl))
+body-length b NewEvents =
+    omega (arith, words-length 4 le32 (eventLongs (b .pack .clock .seconds) (newOf (b .hire .events))) 0 (1 + newCount (b .hire .events)) (λ w. refl))
+body-length b AllEvents =
+    omega (arith, words-length 4 le32 (eventLongs (b .pack .clock .seconds) (keptOf (b .hire .events))) 0 (1 + keptCount (b .hire .events)) (λ w. refl))
+body-length b Temperatures = omega arith
+body-length b Cells = omega (arith, words-length 2 le16 (valueAt b) 0 (b .pack .cells) (λ w. refl))
+body-length b (SettingsOf kind n) = omega (arith, words-length 2 le16 (settings.registerOf (settings.ofKind (b .pack .settings) kind)) 300 n (λ w. refl))
+
+sealed-short : (xs : List ℕ) → length xs ≤ 257 → length (sealed xs) ≤ 259
+sealed-short xs h = let e = sealed-length xs in omega arith
+
+pub reply-length : (b : Board) (s : List ℕ) (q : Request) → length (requestReply b s q) ≤ 259
+unfolding requestReply refusalReply writeReply queryReply
+reply-length b s (request.Refused Foreign) = omega arith
+reply-length b s (request.Refused (Damaged command)) = sealed-short _ (omega arith)
+reply-length b s (request.Refused (Against command)) = sealed-short _ (omega arith)
+reply-length b s request.ClearEvents = sealed-short _ (omega arith)
+reply-length b s request.ClearStatistics = sealed-short _ (omega arith)
+reply-length b s (request.Write from n) = go (eqb (writeNumber (b .pack .settings) s from n) 0)
+  where
+    go : (t : Bool) → length (sealed (cond t (0xAA ∷ 0x10 ∷ be16 (300 + from) ++ be16 n) (nackOf 0x10 0x00))) ≤ 259
+    go true = sealed-short _ (omega arith)
+    go false = sealed-short _ (omega arith)
+reply-length b s (request.Read q) = go (tooLong b q) refl
+  where
+    go : (t : Bool) → tooLong b q ≡ t → length (sealed (cond t (nackOf (commandOf q) 0x00) (bodyOf b q))) ≤ 259
+    go true e = sealed-short _ (omega arith)
+    go false e = let h = ltb-false 254 (payloadOf b q) e in sealed-short _ (omega (arith, body-length b q))

@@ -1,0 +1,21 @@
+-- Events, statistics and live readings are what their calls give, and every other field is as the definition has it. Assumes nothing.
+use Rattle.hire.specs.Hire.{newHire}
+use borrow.Author.Needs.{needs}
+use Rattle.hire.proofs.Hire.new.Statement.{statement}
+use Rattle.hire.proofs.Hire.new.Tie as tie
+
+none-requires : tie.Need-none-requires
+none-requires c κs = search needs
+
+none-requires-2 : tie.Need-none-requires-2
+none-requires-2 c κs = search needs
+
+cleared-at-requires : tie.Need-cleared-at-requires
+cleared-at-requires c κs = search needs
+
+returns : tie.Need-returns
+unfolding newHire
+returns c = cc
+
+pub new-spec : {M : Type 1} → statement M
+new-spec = tie.close (tie.spec none-requires none-requires-2 cleared-at-requires returns)

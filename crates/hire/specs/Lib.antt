@@ -1,0 +1,3 @@
+pub mod Hire
+pub mod Tick
+pub mod Registers

@@ -1,0 +1,82 @@
+// The hire: what one rider did and saw. A handover makes a new one, so nothing in it outlives the rider.
+mod registers;
+mod tick;
+
+ghost use mathlib.Core.Path.{_≡_};
+ghost use Rattle.hire.specs.Hire.{newHire, withEvents, withStatistics};
+use cells::Extremes;
+use events::Events;
+use live::Live;
+use statistics::Statistics;
+
+// What the last tick read.
+pub struct Sensed {
+    pub internal: i16, // 0.1 °C, as both externals
+    pub external1: i16,
+    pub external2: i16,
+    pub cells: [u16; 16], // 0.1 mV
+    pub extremes: Extremes,
+    pub live: Live,
+}
+
+pub struct Hire {
+    pub sensed: Sensed,
+    pub window: [u16; 10], // the pulses of the last ten ticks, the latest last
+    pub charger: bool, // present at the last tick
+    pub events: Events,
+    pub statistics: Statistics,
+    pub status: u16,
+    pub decision: u16, // register 51
+    pub balancing: u16, // register 52
+    pub charge: bool, // the switches
+    pub discharge: bool,
+}
+
+impl Hire {
+    // Everything at its start value; only the lifetime enters, as that of the clear.
+    pub fn new(lifetime: u32) -> Hire
+        ensures { λ r. ⌜ r ≡ newHire lifetime ⌝ }
+    {
+        let sensed = Sensed {
+            internal: 0,
+            external1: 0,
+            external2: 0,
+            cells: [0; 16],
+            extremes: Extremes {
+                lowest: 0,
+                highest: 0,
+            },
+            live: Live::none(),
+        };
+        Hire {
+            sensed,
+            window: [0; 10],
+            charger: false,
+            events: Events::none(),
+            statistics: Statistics::cleared_at(lifetime),
+            status: 0x97,
+            decision: 0,
+            balancing: 0,
+            charge: false,
+            discharge: false,
+        }
+    }
+
+    // One part anew, and the rest as it was.
+
+    pub fn with_events(self, events: Events) -> Hire
+        ensures { λ r. ⌜ r ≡ withEvents self events ⌝ }
+    {
+        let mut hire = self;
+        hire.events = events;
+        hire
+    }
+
+    pub fn with_statistics(self, statistics: Statistics) -> Hire
+        ensures { λ r. ⌜ r ≡ withStatistics self statistics ⌝ }
+    {
+        let mut hire = self;
+        hire.statistics = statistics;
+        hire
+    }
+}

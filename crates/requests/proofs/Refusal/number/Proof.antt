@@ -1,0 +1,29 @@
+-- By cases on the refusal. Assumes nothing.
+use Rattle.requests.specs.Requests.{refusalNumber}
+use borrow.Author.Needs.{needs}
+use Rattle.requests.proofs.Refusal.number.Statement.{statement}
+use Rattle.requests.proofs.Refusal.number.Tie as tie
+
+enum-told : tie.Need-enum-told
+enum-told c = search needs
+
+enum-told-2 : tie.Need-enum-told-2
+enum-told-2 c = search needs
+
+enum-told-3 : tie.Need-enum-told-3
+enum-told-3 c = search needs
+
+returns : tie.Need-returns
+unfolding refusalNumber
+returns c = rw (c .enum-told .given .1)
+
+returns-2 : tie.Need-returns-2
+unfolding refusalNumber
+returns-2 c = rw (c .enum-told2 .given .1)
+
+returns-3 : tie.Need-returns-3
+unfolding refusalNumber
+returns-3 c = rw (c .enum-told3 .given .1)
+
+pub number-spec : {M : Type 1} → statement M
+number-spec = tie.close (tie.spec enum-told enum-told-2 enum-told-3 returns returns-2 returns-3)
