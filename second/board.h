@@ -101,7 +101,10 @@ enum number board_handover(struct board *board);
 
 void clear_events(struct board *board);
 void clear_statistics(struct board *board);
-uint16_t board_register(const struct board *board, unsigned number);
+
+/* "A register block must lie in one range: 0 to 55, 100 to 117, or 300 to 399." */
+bool in_one_range(unsigned first, unsigned registers);
+uint16_t board_register(const struct board *board, unsigned number);    /* of one in a range */
 uint16_t crc_of(const uint8_t *bytes, size_t length);
 
 /* 320 is signed 16-bit; every other setting is read as it stands. */

@@ -38,6 +38,7 @@ static bool take_word(struct words *words, const char *word)
    Reading: leading zeros are allowed, as many as the line holds; "-0" is 0 where "-" is allowed at all. */
 static inline bool take_number(struct words *words, int64_t least, int64_t greatest, int64_t *number)
 {
+    const int64_t furthest = INT64_C(1) << 31;    /* "current 32 bits signed": no call takes a number further from 0 */
     if (!another_word(words))
         return false;
     const char *at = words->at;
@@ -46,7 +47,7 @@ static inline bool take_number(struct words *words, int64_t least, int64_t great
     const char *digits = at;
     int64_t value = 0;
     for (; at < words->end && *at >= '0' && *at <= '9'; at++)
-        value = value < 1000000000000 ? 10 * value + (*at - '0') : value;    /* so high a value fits nowhere */
+        value = value <= furthest ? 10 * value + (*at - '0') : value;
     if (at == digits || !at_word_end(at, words->end))
         return false;
     words->at = at;
@@ -87,6 +88,11 @@ static inline char *say_byte(char *at, unsigned byte)
     return at;
 }
 
+static inline char *say_word(char *at, uint16_t word)
+{
+    return say_byte(say_byte(at, word >> 8), word & 0xFF);
+}
+
 static char *say_decimal(char *at, unsigned number)
 {
     if (number >= 10)
@@ -95,7 +101,7 @@ static char *say_decimal(char *at, unsigned number)
     return at;
 }
 
-/* "NUMBER SWITCHES NEED REAL". A board that is none has all zeros, so it says "-- 0000 0000". */
+/* "NUMBER SWITCHES NEED REAL". A board that is none is as at a start, so it says "-- 0000 0000". */
 static char *say_state(char *at, enum number number, const struct board *board)
 {
     at = say_decimal(at, number);
@@ -103,11 +109,9 @@ static char *say_state(char *at, enum number number, const struct board *board)
     *at++ = board->charge_switch ? 'c' : '-';
     *at++ = board->discharge_switch ? 'd' : '-';
     *at++ = ' ';
-    at = say_byte(at, board->need >> 8);
-    at = say_byte(at, board->need & 0xFF);
+    at = say_word(at, board->need);
     *at++ = ' ';
-    at = say_byte(at, board->real >> 8);
-    return say_byte(at, board->real & 0xFF);
+    return say_word(at, board->real);
 }
 
 /* " BYTE.. +Z": the whole buffer, its trailing zero bytes as their count. */
@@ -193,6 +197,18 @@ static char *call_crc(struct words *words, char *answer)
     return say_byte(answer, crc >> 8);
 }
 
+/* "four upper-case hex digits, or - where there is none" */
+static char *call_register(const struct board *board, struct words *words, char *answer)
+{
+    int64_t number;
+    if (!take_number(words, 0, 65535, &number) || another_word(words))
+        return NULL;
+    if (in_one_range((unsigned)number, 1))
+        return say_word(answer, board_register(board, (unsigned)number));
+    *answer++ = '-';
+    return answer;
+}
+
 static char *make_call(struct board *board, struct words *words, char *answer)
 {
     if (take_word(words, "tick"))
@@ -205,6 +221,8 @@ static char *make_call(struct board *board, struct words *words, char *answer)
         return call_handover(board, words, answer);
     if (take_word(words, "crc"))
         return call_crc(words, answer);
+    if (take_word(words, "register"))
+        return call_register(board, words, answer);
     return NULL;
 }
 

@@ -4,16 +4,26 @@
 
 #include "board.h"
 
-enum { MOST_BYTES = 300, MOST_CELLS_LENT = 32, MOST_ROOM = 600, LONGEST_LINE = 4000, ANSWER_ROOM = 2048 };
+/* The console's limits, in the words of its paper. */
+enum {
+    MOST_BYTES = 300,                   /* "0 to 300 bytes" */
+    MOST_CELLS_LENT = 32,               /* "0 to 32 cells" */
+    MOST_ROOM = 600,                    /* "a reply buffer of ROOM bytes, 0 to 600" */
+    LONGEST_LINE = 4000,                /* "a line over 4,000 bytes" is answered "?" */
+    ANSWER_ROOM = 3 * MOST_ROOM + 32    /* for "NUMBER SWITCHES NEED REAL BYTE.. +Z" at its longest, and its LF */
+};
 
 /* Makes the call of one line (without its end) and writes the answer with its LF; gives back the answer's length,
    0 for a line that gives none. */
 size_t answer_line(struct board *board, const char *line, size_t length, char answer[ANSWER_ROOM]);
 
-/* Prints a script of calls that press the limits, always the same for one seed. */
-void print_script(uint64_t seed, uint64_t calls);
+/* What a script is made of: calls of every kind, ticks alone, or what an app sends with some ticks between. */
+enum script_kind { MIXED, TICKS, FRAMES };
 
-/* Prints a script in which each count of the statistics and the distance grow on: 14 ticks a round. */
-void print_counts(uint64_t rounds);
+/* Prints a script of calls, the first of them a start where they are not mixed; always the same for one seed. */
+void print_script(uint64_t seed, uint64_t calls, enum script_kind kind);
+
+/* Prints the named script that drives a count to its end; false where there is none of that name. */
+bool print_limits(const char *name);
 
 #endif

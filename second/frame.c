@@ -111,13 +111,6 @@ static bool clear(struct board *board, uint8_t option, struct reply *reply)
     return true;
 }
 
-/* "A register block must lie in one range: 0 to 55, 100 to 117, or 300 to 399." */
-static bool in_one_range(unsigned first, unsigned registers)
-{
-    const unsigned last = first + registers - 1;
-    return last <= 55 || (first >= 100 && last <= 117) || (first >= 300 && last <= 399);
-}
-
 /* "0x03, 8 bytes: address high, low, 00, RL. RL 1 to 127. Reply AA 03 PL, then each register high byte first" */
 static bool read_block(const struct board *board, const uint8_t *frame, struct reply *reply)
 {

@@ -1,10 +1,14 @@
-/* second                      answers calls from standard input on standard output
-   second --fault N            the same with one slip of the old board, N 1 to 6
-   second --script SEED CALLS  prints a script of calls that press the limits
-   second --counts ROUNDS      prints a script that makes the counts and the distance stop
-   Built with: cc -std=c11 -O3 -Wall -Wextra -Wpedantic -o second board.c frame.c console.c script.c main.c */
+/* second                          answers calls from standard input on standard output
+   second --fault N                the same with one slip of the old board, N 1 to 6
+   second --script SEED CALLS      prints a script of calls that press the limits
+   second --script SEED CALLS K    prints a script of one kind, K ticks or frames
+   second --limits NAME            prints a script that drives a count to its end; limits.c has the names
+   second --compare NAME SCRIPT    holds the board's answers, on standard input, to its own answers to the file SCRIPT
+   Built with: cc -std=c11 -O3 -Wall -Wextra -Wpedantic -o second *.c */
 #include "console.h"
 
+#include <errno.h>
+#include <inttypes.h>
 #include <stdio.h>
 #include <stdlib.h>
 #include <string.h>
@@ -12,50 +16,66 @@
 /* ---- Lines, read in big blocks ---- */
 
 struct input {
+    FILE *file;
     char *bytes;
     size_t room, start, end;
     bool over;
 };
 
-/* Moves what is left to the front and reads on. A line that fills all the room gets twice the room. */
+static void give_room(struct input *input, size_t room)
+{
+    input->room = room;
+    input->bytes = realloc(input->bytes, room);
+    if (input->bytes == NULL) {
+        fputs("second: no memory for a line\n", stderr);
+        exit(1);
+    }
+}
+
+static struct input read_from(FILE *file)
+{
+    struct input input = {.file = file};
+    give_room(&input, 1 << 20);
+    return input;
+}
+
+/* Moves what is left to the front and reads on. "A line over 4,000 bytes" is a limit of calls: a comment or a line of
+   spaces may be longer, so a line that fills all the room gets twice the room. */
 static void read_block(struct input *input)
 {
     memmove(input->bytes, input->bytes + input->start, input->end - input->start);
     input->end -= input->start;
     input->start = 0;
-    if (input->end == input->room) {
-        input->room *= 2;
-        input->bytes = realloc(input->bytes, input->room);
-        if (input->bytes == NULL) {
-            fputs("second: a line is too long for the memory\n", stderr);
-            exit(1);
-        }
-    }
-    const size_t read = fread(input->bytes + input->end, 1, input->room - input->end, stdin);
+    if (input->end == input->room)
+        give_room(input, 2 * input->room);
+    const size_t read = fread(input->bytes + input->end, 1, input->room - input->end, input->file);
     input->over = read == 0;
     input->end += read;
 }
 
-/* Reading: one CR is taken off before an LF only; the last line, where it lacks its LF, keeps a CR as a byte of it. */
+/* A line with its LF; "the last line may lack its end". */
 static bool next_line(struct input *input, const char **line, size_t *length)
 {
     for (;;) {
         *line = input->bytes + input->start;
         const char *end = memchr(*line, '\n', input->end - input->start);
-        if (end != NULL) {
-            *length = (size_t)(end - *line);
-            input->start += *length + 1;
-            if (*length > 0 && end[-1] == '\r')
-                --*length;
-            return true;
+        if (end == NULL && !input->over) {
+            read_block(input);
+            continue;
         }
-        if (input->over) {
-            *length = input->end - input->start;
-            input->start = input->end;
-            return *length > 0;
-        }
-        read_block(input);
+        *length = end != NULL ? (size_t)(end - *line) + 1 : input->end - input->start;
+        input->start += *length;
+        return *length > 0;
     }
+}
+
+/* "a line ends with LF or CR LF". Reading: one CR is taken off before an LF only; the last line, where it lacks its LF,
+   keeps a CR as a byte of it. */
+static size_t without_end(const char *line, size_t length)
+{
+    if (line[length - 1] != '\n')
+        return length;
+    return length > 1 && line[length - 2] == '\r' ? length - 2 : length - 1;
 }
 
 /* ---- Answers, written in big blocks ---- */
@@ -65,13 +85,11 @@ static void answer_all(void)
     static char answers[1 << 20];
     size_t length = 0, line_length;
     const char *line;
-    struct input input = {malloc(1 << 20), 1 << 20, 0, 0, false};
+    struct input input = read_from(stdin);
     struct board board;
     board_start(&board, 0, 0);    /* "Before the first start a call is made on a board that was started with 0 cells" */
-    if (input.bytes == NULL)
-        exit(1);
     while (next_line(&input, &line, &line_length)) {
-        length += answer_line(&board, line, line_length, answers + length);
+        length += answer_line(&board, line, without_end(line, line_length), answers + length);
         if (length > sizeof answers - ANSWER_ROOM) {
             fwrite(answers, 1, length, stdout);
             length = 0;
@@ -81,19 +99,116 @@ static void answer_all(void)
     free(input.bytes);
 }
 
+/* ---- Answers held to those of another program ---- */
+
+static void show(const char *who, const char *line, size_t length)
+{
+    printf("second: %s %.*s\n", who, (int)without_end(line, length), line);
+}
+
+/* Names the first call that is answered otherwise, with both answers, and gives back whether there is none. */
+static bool compare(const char *name, struct input *script, struct input *answers)
+{
+    struct board board;
+    uint64_t calls = 0;
+    const char *line, *answer;
+    char own[ANSWER_ROOM];
+    size_t line_length, answer_length, own_length;
+    board_start(&board, 0, 0);
+    while (next_line(script, &line, &line_length)) {
+        own_length = answer_line(&board, line, without_end(line, line_length), own);
+        if (own_length == 0)
+            continue;
+        calls++;
+        if (!next_line(answers, &answer, &answer_length)) {
+            answer = "nothing";
+            answer_length = strlen(answer);
+        }
+        if (answer_length == own_length && memcmp(answer, own, own_length) == 0)
+            continue;
+        printf("second: script %s, call %" PRIu64 "\n", name, calls);
+        show("the call           ", line, line_length);
+        show("the board answers  ", answer, answer_length);
+        show("the second program ", own, own_length);
+        return false;
+    }
+    if (calls == 0 || next_line(answers, &answer, &answer_length)) {
+        printf("second: script %s has %s\n", name, calls == 0 ? "no calls" : "fewer calls than answers");
+        return false;
+    }
+    printf("second: script %s, %" PRIu64 " calls, each answered alike\n", name, calls);
+    return true;
+}
+
+static bool compare_with(const char *name, const char *path)
+{
+    FILE *file = fopen(path, "rb");
+    if (file == NULL) {
+        perror(path);
+        return false;
+    }
+    struct input script = read_from(file), answers = read_from(stdin);
+    const bool alike = compare(name, &script, &answers);
+    free(script.bytes);
+    free(answers.bytes);
+    fclose(file);
+    return alike;
+}
+
+/* ---- The words after the program's name ---- */
+
+static uint64_t number_of(const char *name, const char *word, uint64_t least, uint64_t greatest)
+{
+    char *end;
+    errno = 0;
+    const uint64_t number = strtoull(word, &end, 10);
+    if (word[0] < '0' || word[0] > '9' || *end != '\0' || errno != 0 || number < least || number > greatest) {
+        fprintf(stderr, "second: %s is a number from %" PRIu64 " to %" PRIu64 ", not '%s'\n",
+                name, least, greatest, word);
+        exit(2);
+    }
+    return number;
+}
+
+/* What the program ends with. */
+enum { ALL_WELL = 0, FAILED = 1, WRONG_WORDS = 2 };
+
+static int print_script_of(int words, char **word)
+{
+    const uint64_t seed = number_of("SEED", word[2], 0, UINT64_MAX), calls = number_of("CALLS", word[3], 1, UINT64_MAX);
+    if (words == 4)
+        print_script(seed, calls, MIXED);
+    else if (words == 5 && strcmp(word[4], "ticks") == 0)
+        print_script(seed, calls, TICKS);
+    else if (words == 5 && strcmp(word[4], "frames") == 0)
+        print_script(seed, calls, FRAMES);
+    else
+        return WRONG_WORDS;
+    return ALL_WELL;
+}
+
+static int obey_words(int words, char **word)
+{
+    const char *order = words > 1 ? word[1] : "";
+    if (words >= 4 && strcmp(order, "--script") == 0)
+        return print_script_of(words, word);
+    if (words == 3 && strcmp(order, "--limits") == 0)
+        return print_limits(word[2]) ? ALL_WELL : WRONG_WORDS;
+    if (words == 4 && strcmp(order, "--compare") == 0)
+        return compare_with(word[2], word[3]) ? ALL_WELL : FAILED;
+    if (words == 3 && strcmp(order, "--fault") == 0)
+        board_fault = (int)number_of("N", word[2], 1, 6);
+    else if (words != 1)
+        return WRONG_WORDS;
+    answer_all();
+    return ALL_WELL;
+}
+
 int main(int words, char **word)
 {
-    if (words == 3 && strcmp(word[1], "--fault") == 0)
-        board_fault = (int)strtol(word[2], NULL, 10);
-    if (words == 1 || (board_fault >= 1 && board_fault <= 6)) {
-        answer_all();
-    } else if (words == 4 && strcmp(word[1], "--script") == 0) {
-        print_script(strtoull(word[2], NULL, 10), strtoull(word[3], NULL, 10));
-    } else if (words == 3 && strcmp(word[1], "--counts") == 0) {
-        print_counts(strtoull(word[2], NULL, 10));
-    } else {
-        fputs("usage: second | second --fault 1..6 | second --script SEED CALLS | second --counts ROUNDS\n", stderr);
-        return 2;
-    }
-    return fflush(stdout) == 0 && !ferror(stdout) ? 0 : 1;
+    const int status = obey_words(words, word);
+    if (status == WRONG_WORDS)
+        fputs("usage: second | second --fault 1..6 | second --script SEED CALLS [ticks|frames]\n"
+              "       second --limits latchings|currents|distance|event-time | second --compare NAME SCRIPT\n", stderr);
+    return status == ALL_WELL && (fflush(stdout) != 0 || ferror(stdout)) ? FAILED : status;
 }

@@ -2,7 +2,6 @@
    lie at, one below and one above the limits of the settings then in force. */
 #include "console.h"
 
-#include <inttypes.h>
 #include <stdarg.h>
 #include <stdio.h>
 #include <string.h>
@@ -410,6 +409,13 @@ static void spoil(struct script *script, struct request *request)
     }
 }
 
+static void say_request(struct script *script, int room, const char *byte_format, const struct request *request)
+{
+    say(script, "frame %d", room);
+    for (size_t at = 0; at < request->length && at < MOST_BYTES; at++)
+        say(script, byte_format, request->bytes[at]);
+}
+
 static void say_frame(struct script *script)
 {
     static const int rooms[] = {0, 1, 2, 257, 258, 258};
@@ -418,10 +424,28 @@ static void say_frame(struct script *script)
     ask(script, &request);
     if (one_in(script, 15))
         spoil(script, &request);
-    say(script, "frame %d", one_in(script, 30) ? PICK(script, rooms) : PICK(script, enough));
-    const char *format = one_in(script, 20) ? " %02x" : " %02X";
-    for (size_t at = 0; at < request.length && at < MOST_BYTES; at++)
-        say(script, format, request.bytes[at]);
+    const int room = one_in(script, 30) ? PICK(script, rooms) : PICK(script, enough);
+    say_request(script, room, one_in(script, 20) ? " %02x" : " %02X", &request);
+}
+
+/* What an app sends, every one of it accepted: mostly reads, now and then a write, seldom a clear. */
+static void say_app_frame(struct script *script)
+{
+    static const struct request reads[] = {
+        {{0xAA, 0x03, 0, 0, 0, 56}, 6}, {{0xAA, 0x03, 0, 100, 0, 18}, 6}, {{0xAA, 0x03, 0x01, 0x2C, 0, 100}, 6},
+        {{0xAA, 0x11}, 2}, {{0xAA, 0x12}, 2}, {{0xAA, 0x14}, 2}, {{0xAA, 0x15}, 2}, {{0xAA, 0x16}, 2},
+        {{0xAA, 0x17}, 2}, {{0xAA, 0x18}, 2}, {{0xAA, 0x19}, 2}, {{0xAA, 0x1B}, 2}, {{0xAA, 0x1C}, 2},
+        {{0xAA, 0x1D, 4, 0, 100}, 5}
+    };
+    static const struct request clears[] = {{{0xAA, 0x02, 0x01}, 3}, {{0xAA, 0x02, 0x02}, 3}};
+    static const struct request write_332 = {{0xAA, 0x10, 0x01, 0x4C, 0, 1, 2}, 7};
+    struct request request = one_in(script, 1000) ? PICK(script, clears) : PICK(script, reads);
+    if (one_in(script, 20)) {
+        request = write_332;
+        add_high_first(&request, between(script, 1, 30));
+    }
+    add_crc(&request);
+    say_request(script, LEAST_ROOM, " %02X", &request);
 }
 
 /* ---- Other lines ---- */
@@ -493,11 +517,18 @@ static void say_call_without_board(struct script *script)
         say_frame(script);
 }
 
-static void say_call(struct script *script)
+/* A tick, now and then the first of a run of quiet ones. */
+static void say_next_tick(struct script *script)
 {
     static const int runs[] = {10, 12, 20, 30, 52, 60, 110, 302, 310};
+    if (script->quiet == 0 && one_in(script, 100))
+        script->quiet = PICK(script, runs);
+    say_tick(script);
+}
+
+static void say_call(struct script *script)
+{
     const int kind = between(script, 0, 9999);
-    script->length = 0;
     if (script->board.cells == 0) {
         say_call_without_board(script);
     } else if (kind < 12) {
@@ -511,52 +542,35 @@ static void say_call(struct script *script)
     } else if (kind < (script->quiet > 0 ? 1200 : 3000)) {
         say_frame(script);
     } else {
-        if (script->quiet == 0 && one_in(script, 100))
-            script->quiet = PICK(script, runs);
-        say_tick(script);
+        say_next_tick(script);
     }
 }
 
-void print_script(uint64_t seed, uint64_t calls)
+/* Ticks alone, or an app's frames alone but for 50 ticks in each 1,000 calls, which bring events to read. */
+static void say_call_of_one_kind(struct script *script, enum script_kind kind, uint64_t call)
+{
+    if (call == 0)
+        say(script, "start 8 2000");
+    else if (kind == TICKS || call % 1000 <= 50)
+        say_next_tick(script);
+    else
+        say_app_frame(script);
+}
+
+void print_script(uint64_t seed, uint64_t calls, enum script_kind kind)
 {
     static struct script script;
     char ignored[ANSWER_ROOM];
     script = (struct script){.chance = seed, .unstarted = 4, .reads_of_events = 12};
-    for (; calls > 0; calls--) {
-        say_call(&script);
+    board_start(&script.board, 0, 0);
+    for (uint64_t call = 0; call < calls; call++) {
+        script.length = 0;
+        if (kind == MIXED)
+            say_call(&script);
+        else
+            say_call_of_one_kind(&script, kind, call);
         answer_line(&script.board, script.line, script.length, ignored);
         fwrite(script.line, 1, script.length, stdout);
         fputs(one_in(&script, 50) ? "\r\n" : "\n", stdout);
-    }
-}
-
-/* ---- The script of the counts ---- */
-
-static void print_times(uint64_t times, const char *line)
-{
-    for (; times > 0; times--)
-        puts(line);
-}
-
-/* "stopping at 2^32 - 1": 1 pulse per km, 42,949,672 pulses are 4,294,967,200, and one more is held.
-   "each count stops at 65,535": each round latches UV, OV, OT, DOC, COC and ROC once, lets all of them recover
-   (r332 is 1) and enters 0x91 once. 108 stops after 32,768 rounds, the others after 65,535. */
-void print_counts(uint64_t rounds)
-{
-    static const char read_statistics[] = "frame 259 AA 03 00 64 00 12 9D C3";
-    puts("start 4 1");
-    puts("frame 259 AA 10 01 4C 00 01 02 00 01 F2 6B");
-    print_times(107374, "tick 0 250 250 250 400 0 0 40000 40000 40000 40000");
-    puts("tick 0 250 250 250 72 0 0 40000 40000 40000 40000");
-    puts(read_statistics);
-    puts("tick 0 250 250 250 1 0 0 40000 40000 40000 40000");
-    puts(read_statistics);
-    for (uint64_t round = 1; round <= rounds; round++) {
-        puts("tick -60000 600 250 250 400 0 0 29000 42000 40000 40000");
-        puts("tick 30000 250 250 250 400 1 0 40000 40000 40000 40000");
-        puts("tick 30000 250 250 250 400 0 0 40000 40000 40000 40000");
-        print_times(11, "tick 900 250 250 250 400 1 0 40000 40000 40000 40000");
-        if ((round + 1) % 4096 <= 2 || round == rounds)
-            puts(read_statistics);
     }
 }
