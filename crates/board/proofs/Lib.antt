@@ -1,5 +1,5 @@
 pub mod Replies
 pub mod Promises
-pub mod Facts
+pub mod Opened
 pub mod Account
 pub mod Demands

@@ -17,9 +17,10 @@ use Rattle.requests.specs.declared.Query.the-variants.{Registers, Live, NewEven
 use Rattle.requests.specs.declared.Refusal.the-variants.{Foreign, Damaged, Against}
 use Rattle.requests.specs.declared.Request.{Request}
 use Rattle.requests.specs.declared.Request.the-variants as request
-use Rattle.wire.specs.Wire.{le16, be16, le32, word16, words, sealed, nackOf, Wrote, Filled, Lengthened, lengthByte}
-use Rattle.requests.specs.Requests.{commandOf, hasLength, highFirst, wordCount}
-use Rattle.board.specs.Frames.{valueAt, bodyOf, payloadOf, tooLong, writeNumber, refusalReply, writeReply, queryReply, requestReply}
+use Rattle.wire.specs.Wire.{le16, be16, le32, word16, words, sealed, nackOf, ackOf, Wrote, Filled, Lengthened, lengthByte}
+use Rattle.requests.specs.Requests.{refusalNumber, commandOf, hasLength, highFirst, wordCount}
+use Rattle.board.specs.Frames.{valueAt, bodyOf, payloadOf, tooLong, writeNumber, refusalReply, writeReply, queryReply, requestNumber, requestReply}
+use Rattle.board.specs.Numbers.{replyBytes}
 use Rattle.board.specs.Replies.{countOf, wordOf, replyOf}
 use Rattle.pairs.specs.Pairs.{halfAt}
 use Rattle.wire.proofs.Writing.{join-at, reply, sealed-length, words-length, length-words}
@@ -103,15 +104,15 @@ short b q {n} e h = rw (payload b q, ← e) (le-ltb 254 (2 * n) (omega arith))
 
 -- ---- a reply has at most 259 bytes
 
-body-length : (b : Board) (q : Query) → length (bodyOf b q) ≤ 3 + payloadOf b q
-unfolding bodyOf payloadOf
+body-length : (b : Board) (q : Query) → length (bodyOf b q) ≡ cond (hasLength q) 3 2 + payloadOf b q
+unfolding bodyOf payloadOf hasLength
 body-length b (Registers at n) = omega (arith, words-length 2 be16 (valueAt b) at n (λ w. refl))
 body-length b (Live command at n) = omega (arith, words-length 2 le16 (valueAt b) at n (λ w. refl))
 body-length b NewEvents =
     omega (arith, words-length 4 le32 (eventLongs (b .pack .clock .seconds) (newOf (b .hire .events))) 0 (1 + newCount (b .hire .events)) (λ w. refl))
 body-length b AllEvents =
     omega (arith, words-length 4 le32 (eventLongs (b .pack .clock .seconds) (keptOf (b .hire .events))) 0 (1 + keptCount (b .hire .events)) (λ w. refl))
-body-length b Temperatures = omega arith
+body-length b Temperatures = refl
 body-length b Cells = omega (arith, words-length 2 le16 (valueAt b) 0 (b .pack .cells) (λ w. refl))
 body-length b (SettingsOf kind n) = omega (arith, words-length 2 le16 (settings.registerOf (settings.ofKind (b .pack .settings) kind)) 300 n (λ w. refl))
 
@@ -134,4 +135,23 @@ reply-length b s (request.Read q) = go (tooLong b q) refl
   where
     go : (t : Bool) → tooLong b q ≡ t → length (sealed (cond t (nackOf (commandOf q) 0x00) (bodyOf b q))) ≤ 259
     go true e = sealed-short _ (omega arith)
-    go false e = let h = ltb-false 254 (payloadOf b q) e in sealed-short _ (omega (arith, body-length b q))
+    go false e = let h = ltb-false 254 (payloadOf b q) e in sealed-short _ (omega (arith, body-length b q, within-three (hasLength q)))
+
+-- an accepted request's has as many as its kind says
+pub reply-bytes : (b : Board) (s : List ℕ) (q : Request) → requestNumber b s q ≡ 0 → length (requestReply b s q) ≡ replyBytes b q
+unfolding requestNumber requestReply refusalNumber writeReply queryReply replyBytes
+reply-bytes b s (request.Refused Foreign) e = let z : _≡_ {A = ℕ} 2 0 = e in absurd (omega arith)
+reply-bytes b s (request.Refused (Damaged command)) e = let z : _≡_ {A = ℕ} 3 0 = e in absurd (omega arith)
+reply-bytes b s (request.Refused (Against command)) e = let z : _≡_ {A = ℕ} 4 0 = e in absurd (omega arith)
+reply-bytes b s request.ClearEvents e = sealed-length (ackOf 0x02)
+reply-bytes b s request.ClearStatistics e = sealed-length (ackOf 0x02)
+reply-bytes b s (request.Write from n) e = rw e (sealed-length (0xAA ∷ 0x10 ∷ be16 (300 + from) ++ be16 n))
+reply-bytes b s (request.Read q) e = go (tooLong b q) e
+  where
+    add : (has : Bool) (n : ℕ) → cond has 3 2 + n + 2 ≡ cond has 5 4 + n
+    add true n = omega arith
+    add false n = omega arith
+
+    go : (t : Bool) → _≡_ {A = ℕ} (cond t 5 0) 0 → length (sealed (cond t (nackOf (commandOf q) 0x00) (bodyOf b q))) ≡ cond (hasLength q) 5 4 + payloadOf b q
+    go true e = let z : _≡_ {A = ℕ} 5 0 = e in absurd (omega arith)
+    go false e = sealed-length (bodyOf b q) ∙ ap (λ n. n + 2) (body-length b q) ∙ add (hasLength q) (payloadOf b q)

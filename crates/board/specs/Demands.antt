@@ -1,19 +1,25 @@
--- The three demands, of any behaviour. None has a hypothesis but what demand 3 says of the two boards; how those were tried stands at
--- each.
+-- The three demands, of any behaviour. None has a hypothesis but what demand 3 says of the two boards.
 -- Assumes nothing.
 use mathlib.Core.Bool.{Bool, true, _&&_, _||_, cond}
 use mathlib.Core.Logic.{_⊎_}
-use mathlib.Core.List.{List, [], _∷_, _++_, reverse}
+use mathlib.Core.List.{List, [], _∷_, reverse}
 use mathlib.Core.Path.{_≡_}
-use Prim.Native.Nat.{ℕ, _≤_}
+use Prim.Native.Nat.{ℕ, _-_, _≤_}
 use lib.Dec.{eqb}
-use lib.ListN.{length, take, getD, replicate}
+use lib.ListN.{length, take, drop, getD, replicate}
 use Rattle.cells.specs.Cells.{extremesOf}
 use Rattle.guard.specs.Quiet.{quiet}
+use Rattle.pack.specs.Pack.{usableCount}
+use Rattle.board.specs.declared.Board.{Board}
 use Rattle.board.specs.Calls.{Call, Seen, tick, frame, handover, step}
 use Rattle.board.specs.Behaviour.{Behaviour, afterIn, answersIn}
 use Rattle.wire.specs.Wire.{sealed, padded, nackOf}
+use Rattle.board.specs.Numbers.{asked, numberAt, replyBytes}
 use Rattle.board.specs.Account.{Deed, Moment, boardAt, deedsOf, settingsAt, clockAt, countAt, latchedAt, waitsAt, momentsAt}
+
+-- the history of calls made in that order, and its deeds
+abbrev pub deeds : ℕ → ℕ → List Call → List Deed
+deeds cells perKm cs = deedsOf cells perKm (reverse cs)
 
 -- ---- Demand 1. Any bytes, readings or settings may arrive; each call answers and ends. Bad input gets its number, changes no
 -- state, and leaves the named NACK or zeros. Nothing lent earlier survives past the end of a reply.
@@ -24,17 +30,25 @@ refusedBuffer number s room =
     cond (eqb number 3) (padded room (sealed (nackOf (getD s 1 0) 0x01)))
     (cond (eqb number 4 || eqb number 5) (padded room (sealed (nackOf (getD s 1 0) 0x00))) (replicate room 0))
 
--- the buffer that a call leaves: that of its refusal, of the length that was lent; a call that is lent none leaves none
-abbrev pub Leaves : Seen → Call → Type 0
-Leaves a (tick cells r) = a .buffer ≡ []
-Leaves a (frame s room) = (length (a .buffer) ≡ room) × ((a .number ≡ 0 → ⊥) → a .buffer ≡ refusedBuffer (a .number) s room)
-Leaves a handover = a .buffer ≡ []
+-- what a call leaves of the buffer that it is lent, where it gives that number and the board before it shows b: of the same length; after
+-- a refusal as above; after a reply zeros, to its end
+abbrev pub Leaves : Board → Seen → Call → Type 0
+Leaves b a (tick cells r) = a .buffer ≡ []
+Leaves b a (frame s room) =
+    (length (a .buffer) ≡ room)
+    × ((a .number ≡ 0 → ⊥) → a .buffer ≡ refusedBuffer (a .number) s room)
+    × (a .number ≡ 0 → drop (replyBytes b (asked s)) (a .buffer) ≡ replicate (room - replyBytes b (asked s)) 0)
+Leaves b a handover = a .buffer ≡ []
 
-abbrev pub Demand1 : Behaviour → Type 0
-Demand1 B =
-    (cells perKm : ℕ) (cs : List Call) (c : Call)
-    → ((B .step (afterIn B (B .start cells perKm) cs) c .1 .number ≡ 0 → ⊥) → B .step (afterIn B (B .start cells perKm) cs) c .0 ≡ afterIn B (B .start cells perKm) cs)
-    × Leaves (B .step (afterIn B (B .start cells perKm) cs) c .1) c
+pub record Demand1 (B : Behaviour) : Type 0 where
+  -- a start gets its number
+  pub starts : (cells perKm : ℕ) → B .started cells perKm ≡ cond (usableCount cells) 0 21
+  -- after any calls, each call gets its number, by the table; a refused one changes no state
+  pub numbers : (cells perKm : ℕ) (cs : List Call) (c : Call) → B .step (afterIn B (B .start cells perKm) cs) c .1 .number ≡ numberAt cells perKm (deeds cells perKm cs) c
+  pub unchanged : (cells perKm : ℕ) (cs : List Call) (c : Call)
+      → (B .step (afterIn B (B .start cells perKm) cs) c .1 .number ≡ 0 → ⊥) → B .step (afterIn B (B .start cells perKm) cs) c .0 ≡ afterIn B (B .start cells perKm) cs
+  -- and leaves of the buffer what is named, and nothing else
+  pub leaves : (cells perKm : ℕ) (cs : List Call) (c : Call) → Leaves (boardAt cells perKm (deeds cells perKm cs)) (B .step (afterIn B (B .start cells perKm) cs) c .1) c
 
 -- ---- Demand 2. Every reply, register, event, switch and balancing bit is what document 01 works out.
 
@@ -61,28 +75,22 @@ Demand2 B = (cells perKm : ℕ) (cs : List Call) → answersIn B (B .start cells
 -- ---- Demand 3. Two boards that agree on what a handover keeps (or that went through 300 quiet ticks) answer everything alike ever
 -- after.
 
--- the history of calls made in that order, and its deeds
-abbrev pub deeds : ℕ → ℕ → List Call → List Deed
-deeds cells perKm cs = deedsOf cells perKm (reverse cs)
-
 -- each of them is quiet
 abbrev pub allQuiet : List Moment → Bool
 allQuiet [] = true
 allQuiet (m ∷ ms) = quiet (m .settings) (m .readings) (extremesOf (m .cells)) && allQuiet ms
 
--- the last 300 accepted ticks are quiet, and there are so many. Other calls and refused ticks may come between, since only
--- accepted ticks are moments. Tried: 300 quiet ticks meet it (proofs/Demands/QuietTicks, quieted); with 299 the demand is refused
-abbrev pub Quieted : List Deed → Type 0
-Quieted h = (300 ≤ countAt h) × (allQuiet (take 300 (momentsAt h)) ≡ true)
+-- the last n accepted ticks are quiet, and there are so many. Other calls and refused ticks may come between, since only accepted ticks
+-- are moments. (300 quiet ticks meet it: proofs/Demands/QuietTicks, quieted)
+abbrev pub Quieted : ℕ → List Deed → Type 0
+Quieted n h = (n ≤ countAt h) × (allQuiet (take n (momentsAt h)) ≡ true)
 
--- (Tried: without equal counts, or without equal waits below, the demand is refused; a latched condition is no hindrance to the second.)
-
--- first alternative: equal settings, equally many accepted ticks, the last 300 accepted of each quiet
-pub record BothQuiet (h k : List Deed) : Type 0 where
+-- first alternative: equal settings, equally many accepted ticks, the last n accepted of each quiet
+pub record BothQuiet (n : ℕ) (h k : List Deed) : Type 0 where
   pub settings : settingsAt h ≡ settingsAt k
   pub ticks : countAt h ≡ countAt k
-  pub first : Quieted h
-  pub second : Quieted k
+  pub first : Quieted n h
+  pub second : Quieted n k
 
 -- second: equal settings, clock to its tenth, latched conditions and remaining waits
 pub record SameKept (h k : List Deed) : Type 0 where
@@ -91,9 +99,13 @@ pub record SameKept (h k : List Deed) : Type 0 where
   pub latched : latchedAt h ≡ latchedAt k
   pub waits : waitsAt h ≡ waitsAt k
 
--- then a handover and any equal list of calls: equal answers, refused calls included, for ever
-abbrev pub Demand3 : Behaviour → Type 0
-Demand3 B =
+-- two boards whose histories agree so: from the handover on, any equal list of calls gets equal answers, refused calls included, for ever
+abbrev pub Alike : Behaviour → (List Deed → List Deed → Type 0) → Type 0
+Alike B Agree =
     (cells perKm : ℕ) (xs ys zs : List Call)
-    → BothQuiet (deeds cells perKm xs) (deeds cells perKm ys) ⊎ SameKept (deeds cells perKm xs) (deeds cells perKm ys)
-    → answersIn B (afterIn B (B .start cells perKm) (xs ++ (handover ∷ []))) zs ≡ answersIn B (afterIn B (B .start cells perKm) (ys ++ (handover ∷ []))) zs
+    → Agree (deeds cells perKm xs) (deeds cells perKm ys)
+    → answersIn B (afterIn B (B .start cells perKm) xs) (handover ∷ zs) ≡ answersIn B (afterIn B (B .start cells perKm) ys) (handover ∷ zs)
+
+-- (300, equal counts and equal waits are needed: crate `facts`, Needed)
+abbrev pub Demand3 : Behaviour → Type 0
+Demand3 B = Alike B (λ h k. BothQuiet 300 h k ⊎ SameKept h k)

@@ -8,4 +8,5 @@ pub mod Replies
 pub mod Calls
 pub mod Behaviour
 pub mod Account
+pub mod Numbers
 pub mod Demands

@@ -155,3 +155,40 @@ sound s = go (ltb (length s) 4) (eqb (getD s 0 0) 0xAA) (eqb (crcOf (take (lengt
     go false true true = asked c s
     go false true false = record { named = refl; in-range = refl }
     go false false v = record { named = refl; in-range = refl }
+
+-- ---- a request whose CRC is right is refused by a rule or not at all
+
+unfoldable pub isRuled : Request → Bool
+isRuled (request.Refused Foreign) = false
+isRuled (request.Refused (Damaged command)) = false
+isRuled (request.Refused (Against command)) = true
+isRuled request.ClearEvents = true
+isRuled request.ClearStatistics = true
+isRuled (request.Write from n) = true
+isRuled (request.Read q) = true
+
+pub record Ruled (q : Request) : Type 0 where
+  pub ruled : isRuled q ≡ true
+
+either : (t : Bool) (x y : Request) → Ruled x → Ruled y → Ruled (cond t x y)
+either true x y p q = p
+either false x y p q = q
+
+fields-ruled : (c : ℕ) (s : List ℕ) (k : Command) → Ruled (fieldsOf k c s)
+unfolding isRuled fieldsOf clearOf blockOf writeOf settingsOf
+fields-ruled c s Clear =
+    either (eqb (getD s 2 0) 1) request.ClearEvents _ (record { ruled = refl })
+    (either (eqb (getD s 2 0) 2) request.ClearStatistics (against 0x02) (record { ruled = refl }) (record { ruled = refl }))
+fields-ruled c s Block =
+    either (eqb (getD s 4 0) 0 && between 1 127 (getD s 5 0) && inOneRange (be16At s 2) (getD s 5 0)) _ _ (record { ruled = refl }) (record { ruled = refl })
+fields-ruled c s Write =
+    either (eqb (getD s 4 0) 0 && between 1 100 (getD s 5 0) && eqb (getD s 6 0) (2 * getD s 5 0) && leb 300 (be16At s 2) && leb (be16At s 2 + getD s 5 0) 400) _ _
+    (record { ruled = refl })
+    (record { ruled = refl })
+fields-ruled c s (Ask q) = record { ruled = refl }
+fields-ruled c s AskSettings = either (between 1 4 (getD s 2 0) && eqb (getD s 3 0) 0 && between 1 100 (getD s 4 0)) _ _ (record { ruled = refl }) (record { ruled = refl })
+fields-ruled c s Unknown = record { ruled = refl }
+
+pub asked-ruled : (c : ℕ) (s : List ℕ) → Ruled (askedOf c s)
+unfolding isRuled askedOf
+asked-ruled c s = either (eqb (length s) (expectedOf c (getD s 5 0) .length)) _ (against c) (fields-ruled c s (expectedOf c (getD s 5 0) .command)) (record { ruled = refl })

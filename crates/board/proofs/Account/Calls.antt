@@ -37,7 +37,7 @@ use Rattle.requests.specs.Requests.{requestOf, refusalNumber, draftedOf, marks}
 use Rattle.board.specs.Frames.{tooLong, payloadOf, markedBy, requestNumber, changedBy, requestBoard, frameBoard}
 use Rattle.board.specs.Calls.{Call, tick, frame, handover, step}
 use Rattle.board.specs.Account.{Deed, took, wrote, cleared, forgot, sent, handed, nothing, sensedOf, settingsAt, secondsAt, clockAt, latchedAt, waitsAt, sensedAt, windowAt, chargerAt, statusAt, decisionAt, balancingAt, chargeAt, dischargeAt, eventsAt, statisticsAt, boardAt, requestDeed, deedOf, deedsOf}
-use Rattle.board.proofs.Facts.Opened.{steps}
+use Rattle.board.proofs.Opened.{steps}
 use Rattle.board.proofs.Account.Settings.{written, ranges, wait-some}
 use Rattle.board.proofs.Account.Tick.{guardAt, tickNoted, clock-next, guard-next, window-next, events-next, statistics-next}
 

@@ -16,7 +16,7 @@ use Rattle.board.specs.Tick.{tickOf}
 use Rattle.pack.specs.Pack.{newPack, tickNumber}
 use Rattle.board.specs.Handover.{handoverOf, handedOver}
 use Rattle.board.specs.Frames.{frameBoard}
-use Rattle.board.specs.Calls.{Call, tick, frame, handover, step}
+use Rattle.board.specs.Calls.{Call, Seen, seen, tick, frame, handover, step}
 use Rattle.board.specs.Behaviour.{Behaviour, board, afterIn, answersIn}
 use Rattle.board.specs.Account.{Deed, boardAt, clockAt, secondsAt, countAt}
 use Rattle.board.specs.Demands.{deeds, BothQuiet, SameKept, Demand2, Demand3}
@@ -36,21 +36,19 @@ unfolding afterIn
 stays b [] e = refl
 stays b (c ∷ cs) e = ap (λ x. afterIn board x cs) (unusable b c e) ∙ stays b cs e
 
--- ---- the board after a handover is made of its pack
+-- ---- from a handover on, the board is made of its pack
 
 handed-on : Pack → Board
 handed-on p = record { pack = p; hire = newHire (p .clock .seconds) }
 
-handed : (b : Board) → usable b ≡ true → afterIn board b (handover ∷ []) ≡ handed-on (b .pack)
-unfolding afterIn step handoverOf handedOver handed-on
-handed b e = rw e refl
+answers-of : List Call → Pack → List Seen
+answers-of zs p = seen (record { number = 0; board = handed-on p }) [] ∷ answersIn board (handed-on p) zs
+
+handed : (b : Board) (zs : List Call) → usable b ≡ true → answersIn board b (handover ∷ zs) ≡ answers-of zs (b .pack)
+unfolding answersIn step handoverOf handedOver handed-on answers-of
+handed b zs e = rw e refl
 
 module _ (B : Behaviour) where
-  after-append : (s : B .State) (xs ys : List Call) → afterIn B s (xs ++ ys) ≡ afterIn B (afterIn B s xs) ys
-  unfolding afterIn
-  after-append s [] ys = refl
-  after-append s (x ∷ xs) ys = after-append (B .step s x .0) xs ys
-
   answers-after : (s : B .State) (xs zs : List Call) → drop (length xs) (answersIn B s (xs ++ zs)) ≡ answersIn B (afterIn B s xs) zs
   unfolding afterIn answersIn
   answers-after s [] zs = refl
@@ -72,7 +70,7 @@ unfolding clockAt secondsAt
 same-clock h k e = λ i. record { seconds = min 4294967295 (e i / 10); tenths = min 42949672959 (e i) % 10 }
 
 module _ (cells perKm : ℕ) (xs ys : List Call) where
-  both-quiet : BothQuiet (deeds cells perKm xs) (deeds cells perKm ys) → SameKept (deeds cells perKm xs) (deeds cells perKm ys)
+  both-quiet : BothQuiet 300 (deeds cells perKm xs) (deeds cells perKm ys) → SameKept (deeds cells perKm xs) (deeds cells perKm ys)
   both-quiet q =
       let x = stilled cells perKm xs (q .first) in
       let y = stilled cells perKm ys (q .second) in
@@ -84,8 +82,8 @@ module _ (cells perKm : ℕ) (xs ys : List Call) where
       }
 
   same : SameKept (deeds cells perKm xs) (deeds cells perKm ys)
-      → afterIn board (startBoard cells perKm) (xs ++ (handover ∷ [])) ≡ afterIn board (startBoard cells perKm) (ys ++ (handover ∷ []))
-  same e = go (usable (startBoard cells perKm)) refl
+      → (zs : List Call) → answersIn board (afterIn board (startBoard cells perKm) xs) (handover ∷ zs) ≡ answersIn board (afterIn board (startBoard cells perKm) ys) (handover ∷ zs)
+  same e zs = go (usable (startBoard cells perKm)) refl
     where
       b : Board
       b = startBoard cells perKm
@@ -96,16 +94,16 @@ module _ (cells perKm : ℕ) (xs ys : List Call) where
       still-usable : (cs : List Call) → usable b ≡ true → usable (afterIn board b cs) ≡ true
       still-usable cs u = ap usable (account cells perKm cs) ∙ kept-usable cells perKm (deeds cells perKm cs) ∙ u
 
-      last : (cs : List Call) → usable b ≡ true → afterIn board b (cs ++ (handover ∷ [])) ≡ handed-on (afterIn board b cs .pack)
-      last cs u = after-append board b cs (handover ∷ []) ∙ handed (afterIn board b cs) (still-usable cs u)
+      from-handover : (cs : List Call) → usable b ≡ true → answersIn board (afterIn board b cs) (handover ∷ zs) ≡ answers-of zs (afterIn board b cs .pack)
+      from-handover cs u = handed (afterIn board b cs) zs (still-usable cs u)
 
-      go : (t : Bool) → usable b ≡ t → afterIn board b (xs ++ (handover ∷ [])) ≡ afterIn board b (ys ++ (handover ∷ []))
-      go true u = last xs u ∙ ap handed-on packs ∙ sym (last ys u)
-      go false u = stays b (xs ++ (handover ∷ [])) u ∙ sym (stays b (ys ++ (handover ∷ [])) u)
+      go : (t : Bool) → usable b ≡ t → answersIn board (afterIn board b xs) (handover ∷ zs) ≡ answersIn board (afterIn board b ys) (handover ∷ zs)
+      go true u = from-handover xs u ∙ ap (answers-of zs) packs ∙ sym (from-handover ys u)
+      go false u = ap (λ x. answersIn board x (handover ∷ zs)) (stays b xs u ∙ sym (stays b ys u))
 
 pub demand3 : Demand3 board
-demand3 cells perKm xs ys zs (inl q) = ap (λ b. answersIn board b zs) (same cells perKm xs ys (both-quiet cells perKm xs ys q))
-demand3 cells perKm xs ys zs (inr e) = ap (λ b. answersIn board b zs) (same cells perKm xs ys e)
+demand3 cells perKm xs ys zs (inl q) = same cells perKm xs ys (both-quiet cells perKm xs ys q) zs
+demand3 cells perKm xs ys zs (inr e) = same cells perKm xs ys e zs
 
 -- every board that meets demand 2 answers as ours does
 module _ (B : Behaviour) (meets : Demand2 B) where
@@ -117,4 +115,4 @@ module _ (B : Behaviour) (meets : Demand2 B) where
       ∙ answers-after board (startBoard cells perKm) xs zs
 
   pub meets-demand3 : Demand3 B
-  meets-demand3 cells perKm xs ys zs k = alike cells perKm _ zs ∙ demand3 cells perKm xs ys zs k ∙ sym (alike cells perKm _ zs)
+  meets-demand3 cells perKm xs ys zs k = alike cells perKm xs (handover ∷ zs) ∙ demand3 cells perKm xs ys zs k ∙ sym (alike cells perKm ys (handover ∷ zs))

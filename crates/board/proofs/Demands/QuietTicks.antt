@@ -22,7 +22,7 @@ use Rattle.board.specs.Calls.{Call, tick}
 use Rattle.board.specs.Account.{Deed, Moment, row, momentOf, momentsAt, countAt, holds, waitOf, leftOf, settingsAt, latchedAt, waitsAt, deedOf, deedsOf}
 use Rattle.board.specs.Demands.{allQuiet, Quieted, deeds}
 use Rattle.board.proofs.Account.Settings.{ranges}
-use Rattle.board.proofs.Facts.Opened.{accounted}
+use Rattle.board.proofs.Opened.{accounted}
 
 -- ---- every wait is at most 300 ticks
 
@@ -96,7 +96,7 @@ newest-recovers held back at-quiet (m ∷ ms) q =
     let p = at-quiet m (and-eq-true-iff (quiet (m .settings) (m .readings) (extremesOf (m .cells))) (allQuiet (take 299 ms)) .0 q .0) in
     recovers-at-once held back m ms (p .0) (p .1)
 
-calmed : (h : List Deed) → Bounded (momentsAt h) → Quieted h → (latchedAt h ≡ noConditions) × (waitsAt h ≡ noWaits)
+calmed : (h : List Deed) → Bounded (momentsAt h) → Quieted 300 h → (latchedAt h ≡ noConditions) × (waitsAt h ≡ noWaits)
 unfolding latchedAt waitsAt recoversOf
 calmed h b (n, q) =
     let ms = momentsAt h in
@@ -135,7 +135,7 @@ all-quiet (suc n) =
     let e : quiet (settingsAt (calm n)) level (extremesOf (replicate 4 37000)) ≡ true = ap (λ s. quiet s level (extremesOf (replicate 4 37000))) (unwritten n) in
     (ap suc (all-quiet n .0), and-eq-true-iff (quiet (settingsAt (calm n)) level (extremesOf (replicate 4 37000))) (allQuiet (take n (momentsAt (calm n)))) .1 (e, all-quiet n .1))
 
-pub quieted : Quieted (calm 300)
+pub quieted : Quieted 300 (calm 300)
 quieted = (let e = all-quiet 300 .0 in omega arith, all-quiet 300 .1)
 
 bounded : (cells perKm : ℕ) (cs : List Call) → Bounded (momentsAt (deedsOf cells perKm cs))
@@ -145,6 +145,6 @@ bounded cells perKm (c ∷ cs) =
     joined (settingsAt (deedsOf cells perKm cs)) (row (deedOf cells perKm (deedsOf cells perKm cs) c) .ticks) (momentsAt (deedsOf cells perKm cs))
     (longest-wait _ (ranges cells perKm cs .0)) (bounded cells perKm cs)
 
-pub stilled : (cells perKm : ℕ) (cs : List Call) → Quieted (deeds cells perKm cs)
+pub stilled : (cells perKm : ℕ) (cs : List Call) → Quieted 300 (deeds cells perKm cs)
     → (latchedAt (deeds cells perKm cs) ≡ noConditions) × (waitsAt (deeds cells perKm cs) ≡ noWaits)
 stilled cells perKm cs q = calmed (deeds cells perKm cs) (bounded cells perKm _) q

@@ -16,17 +16,17 @@ use Rattle.readings.specs.declared.Readings.{Readings}
 use Rattle.readings.specs.Readings.{judgedOf, numberOf}
 use Rattle.settings.specs.Settings as settings
 use Rattle.statistics.specs.Statistics as statistics
 use Rattle.board.specs.declared.Board.{Board}
 use Rattle.board.specs.declared.Shown.the-variants.{Register}
 use Rattle.hire.specs.Hire.{newHire}
 use Rattle.board.specs.Start.{startBoard, startOf}
 use Rattle.hire.specs.Tick.{statusFor}
 use Rattle.pack.specs.Pack.{newPack, laterOf, tickNumber}
 use Rattle.board.specs.Tick.{tickOf}
 use Rattle.hire.specs.Registers.{liveRegister}
 use Rattle.board.specs.Registers.{shownAt}
 use Rattle.board.specs.Handover.{handedOver, handoverOf}
-use Rattle.board.proofs.Facts.Opened.{steps}
+use Rattle.board.proofs.Opened.{steps}
 
 -- ---- ticks
 

@@ -12,17 +12,17 @@ use Rattle.live.specs.Live.{speedOf, speedBitsOf}
 use Rattle.settings.specs.declared.Verdict.the-variants.{Taken, OutOfOrder}
 use Rattle.settings.specs.Settings.{factory, draftOf, putOf, verdictOf}
 use Rattle.signed.specs.Signed.{wholeDegrees}
 use Rattle.board.specs.declared.Board.{Board}
 use Rattle.board.specs.declared.Shown.the-variants.{Register}
 use Rattle.board.specs.Start.{startBoard}
 use Rattle.board.specs.Registers.{shownAt}
 use Rattle.board.specs.Frames.{frameBoard}
 use Rattle.board.specs.Calls.{tick}
 use Rattle.board.specs.Behaviour.{board, afterIn}
-use Rattle.board.proofs.Facts.Opened.{opened}
-use Rattle.board.proofs.Facts.Ticks as facts
-use Rattle.board.proofs.Facts.Ticks.{fresh, after, latched, kept, cells, flow, ridden, since, since-again}
-use Rattle.board.proofs.Facts.Frames.{Gets}
+use Rattle.board.proofs.Opened.{opened}
+use Rattle.facts.proofs.Ticks as facts
+use Rattle.facts.proofs.Ticks.{fresh, after, latched, kept, cells, flow, ridden, since, since-again}
+use Rattle.facts.proofs.Frames.{Gets}
 
 -- a board of 4 cells with 2000 pulses per km after n ticks: level cells, no current, those pulses and external temperatures
 abbrev ticked : ℕ → ℕ → ℤ → ℤ → Board

@@ -1,25 +1,27 @@
--- The demands shut out wrong boards. Demand 2: a board that NACKs everything, one that always replies idle, one that answers its first
+-- The demands shut out wrong boards. Demand 1: a board that accepts everything, one that leaves a byte of the last reply behind the next,
+-- one that answers 4 where 3 is due, one that answers 0 to a start of three cells. Demand 2: a board that NACKs everything, one that always replies idle, one that answers its first
 -- frame and repeats it, statistics with invented counts. Demand 3: a handover that does nothing. Some of the first look the same
 -- for two riders: the ones that NACK everything or reply idle meet demand 3, so demand 3 is stated of boards that meet demand 2.
 -- Assumes nothing.
 use mathlib.Core.Path.{_≡_, refl, ap}
-use mathlib.Core.Bool.{Bool, true, false}
+use mathlib.Core.Bool.{Bool, true, false, cond}
 use mathlib.Core.Logic.{inr}
 use mathlib.Core.List.{List, [], _∷_}
 use Prim.Native.Nat.{ℕ}
 use native.Mathlib.Omega.{arith}
 use lib.IntN.{pos}
-use lib.ListN.{getD, replicate}
+use lib.Dec.{eqb}
+use lib.ListN.{getD, set, replicate}
 use Rattle.statistics.specs.declared.Statistics.{Statistics}
 use Rattle.board.specs.declared.Board.{Board}
 use Rattle.board.specs.State.{withStatistics}
 use Rattle.board.specs.Start.{startBoard}
 use Rattle.board.specs.Handover.{handoverOf}
 use Rattle.wire.specs.Wire.{padded, sealed, nackOf}
 use Rattle.board.specs.Calls.{Call, Seen, seen, tick, frame, handover, step}
-use Rattle.board.specs.Behaviour.{Behaviour}
-use Rattle.board.specs.Demands.{Demand2, Demand3}
-use Rattle.board.proofs.Facts.Opened.{accounted}
+use Rattle.board.specs.Behaviour.{Behaviour, board}
+use Rattle.board.specs.Demands.{Demand1, Demand2, Demand3}
+use Rattle.board.proofs.Opened.{accounted}
 
 -- ---- requests, and what is looked at in the answers
 
@@ -44,6 +46,68 @@ numberAt n answers = getD answers n (says 0 []) .number
 abbrev byteAt : ℕ → ℕ → List Seen → ℕ
 byteAt n i answers = getD (getD answers n (says 0 []) .buffer) i 0
 
+-- ---- everything is accepted, and the buffer left as it was lent
+
+abbrev accepts : Call → Seen
+accepts (tick cells r) = says 0 []
+accepts (frame s room) = says 0 (replicate room 0x5A)
+accepts handover = says 0 []
+
+abbrev pub accepting : Behaviour
+accepting = record { State = Unit {0}; start = λ cells perKm. tt; started = board .started; step = λ s c. (s, accepts c) }
+
+-- a tick with no cells is number 11, and after an accepted frame zeros are due
+pub accepting-fails : ¬ Demand1 accepting
+unfolding accounted
+accepting-fails h = let z : _≡_ {A = ℕ} 0 11 = h .numbers 4 2000 [] (tick [] (record { current = pos 0; internal = pos 200; external1 = pos 200; external2 = pos 200; pulses = 0; charger = false; ignition = false })) in omega arith
+
+pub lent-is-left : ¬ Demand1 accepting
+unfolding accounted
+lent-is-left h = let z : _≡_ {A = ℕ} 0x5A 0 = ap (λ (l : List ℕ). getD l 0 0) (h .leaves 4 2000 [] status .2 refl) in omega arith
+
+-- ---- a byte of the last reply stands behind the next
+
+-- the buffer, with the byte at its place 7 as the buffer before had it where it is 0 now
+abbrev over : List ℕ → List ℕ → List ℕ
+over last buffer = cond (eqb (getD buffer 7 0) 0) (set buffer 7 (getD last 7 0)) buffer
+
+abbrev lefts : Board × List ℕ → Call → (Board × List ℕ) × Seen
+lefts (b, last) (tick cells r) = ((step b (tick cells r) .0, last), step b (tick cells r) .1)
+lefts (b, last) (frame s room) =
+    let a = step b (frame s room) .1 in
+    ((step b (frame s room) .0, over last (a .buffer)), record { number = a .number; buffer = over last (a .buffer); charge = a .charge; discharge = a .discharge; decision = a .decision; balancing = a .balancing })
+lefts (b, last) handover = ((step b handover .0, last), step b handover .1)
+
+abbrev pub leaving : Behaviour
+leaving = record { State = Board × List ℕ; start = λ cells perKm. (startBoard cells perKm, []); started = board .started; step = lefts }
+
+-- the reply to 0x12 has a CRC byte there, and the one to 0x18 after it ends before
+pub leaving-fails : ¬ Demand1 leaving
+unfolding accounted
+leaving-fails h = let z : _≡_ {A = ℕ} 0xE3 0 = ap (λ (l : List ℕ). getD l 1 0) (h .leaves 4 2000 (events ∷ []) status .2 refl) in omega arith
+
+-- ---- 4 where 3 is due
+
+abbrev blurs : Board → Call → Board × Seen
+blurs b c =
+    let a = step b c .1 in
+    (step b c .0, record { number = cond (eqb (a .number) 3) 4 (a .number); buffer = a .buffer; charge = a .charge; discharge = a .discharge; decision = a .decision; balancing = a .balancing })
+
+abbrev pub blurring : Behaviour
+blurring = record { State = Board; start = startBoard; started = board .started; step = blurs }
+
+pub blurring-fails : ¬ Demand1 blurring
+unfolding accounted
+blurring-fails h = let z : _≡_ {A = ℕ} 4 3 = h .numbers 4 2000 [] (frame (0xAA ∷ 0x18 ∷ 0x7F ∷ 0x1B ∷ []) 259) in omega arith
+
+-- ---- 0 to a start of three cells
+
+abbrev pub eager : Behaviour
+eager = record { State = Board; start = startBoard; started = λ cells perKm. 0; step = step }
+
+pub eager-fails : ¬ Demand1 eager
+eager-fails h = let z : _≡_ {A = ℕ} 0 21 = h .starts 3 2000 in omega arith
+
 -- ---- every frame gets a NACK
 
 abbrev nacks : Call → Seen
@@ -52,7 +116,7 @@ nacks (frame s room) = says 4 (padded room (sealed (nackOf (getD s 1 0) 0x00)))
 nacks handover = says 0 []
 
 abbrev pub nacking : Behaviour
-nacking = record { State = Unit {0}; start = λ cells perKm. tt; step = λ s c. (s, nacks c) }
+nacking = record { State = Unit {0}; start = λ cells perKm. tt; started = λ cells perKm. 0; step = λ s c. (s, nacks c) }
 
 pub nacking-fails : ¬ Demand2 nacking
 unfolding accounted
@@ -70,7 +134,7 @@ idles (frame s room) = says 0 (padded room (0xAA ∷ 0x18 ∷ 0x97 ∷ 0x00 ∷ 
 idles handover = says 0 []
 
 abbrev pub idling : Behaviour
-idling = record { State = Unit {0}; start = λ cells perKm. tt; step = λ s c. (s, idles c) }
+idling = record { State = Unit {0}; start = λ cells perKm. tt; started = λ cells perKm. 0; step = λ s c. (s, idles c) }
 
 pub idling-fails : ¬ Demand2 idling
 unfolding accounted
@@ -88,7 +152,7 @@ repeats (b, a ∷ rest) (frame s room) = ((b, a ∷ rest), a)
 repeats (b, first) handover = ((step b handover .0, first), step b handover .1)
 
 abbrev pub repeating : Behaviour
-repeating = record { State = Board × List Seen; start = λ cells perKm. (startBoard cells perKm, []); step = repeats }
+repeating = record { State = Board × List Seen; start = λ cells perKm. (startBoard cells perKm, []); started = board .started; step = repeats }
 
 pub repeating-fails : ¬ Demand2 repeating
 unfolding accounted
@@ -109,7 +173,7 @@ invented s =
     }
 
 abbrev pub inventing : Behaviour
-inventing = record { State = Board; start = λ cells perKm. withStatistics (startBoard cells perKm) (invented (startBoard cells perKm .hire .statistics)); step = step }
+inventing = record { State = Board; start = λ cells perKm. withStatistics (startBoard cells perKm) (invented (startBoard cells perKm .hire .statistics)); started = board .started; step = step }
 
 pub inventing-fails : ¬ Demand2 inventing
 unfolding accounted
@@ -123,7 +187,7 @@ keeps b (frame s room) = step b (frame s room)
 keeps b handover = (b, seen (record { number = handoverOf b .number; board = b }) [])
 
 abbrev pub keeping : Behaviour
-keeping = record { State = Board; start = startBoard; step = keeps }
+keeping = record { State = Board; start = startBoard; started = board .started; step = keeps }
 
 -- a quiet tick, with or without the charger
 abbrev rides : Bool → Call
@@ -135,5 +199,5 @@ pub keeping-fails : ¬ Demand3 keeping
 unfolding accounted
 keeping-fails h =
     let e = h 4 2000 (rides true ∷ []) (rides false ∷ []) (events ∷ []) (inr (record { settings = refl; clock = refl; latched = refl; waits = refl })) in
-    let z : _≡_ {A = ℕ} 8 4 = ap (byteAt 0 2) e in
+    let z : _≡_ {A = ℕ} 8 4 = ap (byteAt 1 2) e in
     omega arith

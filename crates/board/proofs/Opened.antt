@@ -20,11 +20,12 @@ use Rattle.hire.specs.Registers.{liveRegister}
 use Rattle.board.specs.Registers.{shownAt}
 use Rattle.board.specs.Handover.{handedOver, handoverOf}
 use Rattle.wire.specs.Wire.{words, sealed, padded}
-use Rattle.requests.specs.Requests.{expectedOf, clearOf, blockOf, writeOf, kindOf, settingsOf, fieldsOf, askedOf, requestOf, refusalNumber, commandOf, draftedOf, marks}
+use Rattle.requests.specs.Requests.{expectedOf, clearOf, blockOf, writeOf, kindOf, settingsOf, fieldsOf, askedOf, requestOf, refusalNumber, commandOf, hasLength, draftedOf, marks}
 use Rattle.board.specs.Frames.{valueAt, bodyOf, payloadOf, requestNumber, changedBy, requestBoard, refusalReply, writeReply, queryReply, requestReply, frameNumber, frameBoard, frameReply}
 use Rattle.board.specs.Calls.{step}
 use Rattle.board.specs.Behaviour.{afterIn, answersIn}
 use Rattle.board.specs.Account.{settingsAt, secondsAt, clockAt, latchedAt, waitsAt, sensedAt, windowAt, chargerAt, statusAt, decisionAt, balancingAt, chargeAt, dischargeAt, eventsAt, statisticsAt, boardAt, requestDeed, deedOf, deedsOf}
+use Rattle.board.specs.Numbers.{against, long, rows, first, numberAt, replyBytes}
 use Rattle.board.specs.Demands.{told, toldAll}
 
 unfoldable pub steps : Unit {0}
@@ -36,5 +37,5 @@ unfolding shifted packed crc.crcOf crc.byteIn crc.times crc.shiftedOut events.la
 opened = tt
 
 unfoldable pub accounted : Unit {0}
-unfolding opened settingsAt secondsAt clockAt latchedAt waitsAt sensedAt windowAt chargerAt statusAt decisionAt balancingAt chargeAt dischargeAt eventsAt statisticsAt boardAt requestDeed deedOf deedsOf told toldAll
+unfolding opened settingsAt secondsAt clockAt latchedAt waitsAt sensedAt windowAt chargerAt statusAt decisionAt balancingAt chargeAt dischargeAt eventsAt statisticsAt boardAt requestDeed deedOf deedsOf told toldAll against long rows first numberAt replyBytes hasLength
 accounted = tt

@@ -6,13 +6,13 @@ use mathlib.Core.List.{List, [], _∷_, _++_, map}
 use Prim.Native.Nat.{ℕ}
 use lib.IntN.{pos}
 use lib.ListN.{replicate}
 use Rattle.board.specs.declared.Board.{Board}
 use Rattle.board.specs.declared.Shown.the-variants.{Register}
 use Rattle.board.specs.Start.{startBoard}
 use Rattle.board.specs.Tick.{tickOf}
 use Rattle.board.specs.Registers.{shownAt}
 use Rattle.board.specs.Frames.{frameNumber, frameBoard, frameReply}
-use Rattle.board.proofs.Facts.Opened.{opened}
+use Rattle.board.proofs.Opened.{opened}
 
 -- a request gets its number and a whole reply: those bytes, then n zeros
 abbrev pub Gets : Board → List ℕ → ℕ → List ℕ → ℕ → Type 0

@@ -1,0 +1,6 @@
+pub mod Ticks
+pub mod Frames
+pub mod BoundaryTable
+pub mod WrongBoards
+pub mod Needed
+pub mod Invariants

@@ -1,0 +1,2 @@
+// No code: what else holds of the board. The boundary table and the published examples computed, the wrong boards that each demand shuts
+// out, why the hypotheses of demand 3 are needed, and the invariants of boards that calls reach from a start.
