@@ -1,1 +1,1 @@
-pub mod Some
+pub mod SomeEvery

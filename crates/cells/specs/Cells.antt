@@ -1,7 +1,7 @@
 -- What is read off the cells, given in 0.1 mV; cell 1 is the first.
 -- Assumes nothing.
 use mathlib.Core.Bool.{Bool, _&&_}
-use mathlib.Core.List.{List, _++_}
+use mathlib.Core.List.{List, _++_, List·Memᴰ}
 use Prim.Native.Nat.{ℕ, _+_, _*_, _-_, _/_, min, max}
 use lib.Dec.{ltb}
 use lib.ListN.{length, take, replicate}
@@ -21,6 +21,13 @@ highestOf cells = gather max 0 cells
 
 abbrev pub extremesOf : List ℕ → Extremes
 extremesOf cells = record { lowest = lowestOf cells; highest = highestOf cells }
+
+-- a cell of the list that ..; every cell of the list ..
+abbrev pub SomeCell : (ℕ → Type 0) → List ℕ → Type 0
+SomeCell Is cells = (cell : ℕ) × List·Memᴰ cell cells × Is cell
+
+abbrev pub EveryCell : (ℕ → Type 0) → List ℕ → Type 0
+EveryCell Is cells = (cell : ℕ) → List·Memᴰ cell cells → Is cell
 
 -- the exact sum in 0.1 mV; a board has at most 16 cells
 abbrev pub sumOf : List ℕ → ℕ

@@ -6,7 +6,7 @@ use mathlib.Core.Bool.{Bool, true, false, _&&_, _||_, not, cond, and-eq-true-iff
 use mathlib.Core.List.{List, [], _∷_}
 use Prim.Native.Nat.{ℕ, suc, _+_, _*_, _-_}
 use native.Mathlib.Omega.{arith}
-use borrow.Author.Tests.{ltb-true, lt-leb, not-true}
+use borrow.Author.Tests.{leb-true, ltb-true, not-true}
 use lib.Dec.{T, ltb, le→leb}
 use lib.IntN.{ℤ, pos, negsuc, _+ℤ_, _-ℤ_, _*ℤ_, -ℤ-+ℤ-cancel}
 use lib.Signed.{leZ, ltZ, _≤ℤ_, leZ-yes, ltZ-yes, <ℤ-≤ℤ-trans, clashℤ, ≤ℤ-refl}
@@ -21,17 +21,17 @@ use Rattle.guard.specs.Quiet.{quiet}
 
 -- ---- what recovers a condition excludes that it holds
 
+not-both : (t : Bool) → (t ≡ true → ⊥) → t ≡ false
+not-both true f = absurd (f refl)
+not-both false f = refl
+
 pub high-not-low : (s : Settings) (e : Extremes) → cellsHighEnough s e ≡ true → cellTooLow s e ≡ false
-high-not-low s e h = lt-leb (e .lowest) (10 * s .r316) (ltb-true (10 * s .r316) (e .lowest) h)
+high-not-low s e h = not-both (cellTooLow s e) (λ l. omega (arith, leb-true, ltb-true))
 
 pub low-not-high : (s : Settings) (e : Extremes) → cellsLowEnough s e ≡ true → cellTooHigh s e ≡ false
-low-not-high s e h = lt-leb (10 * s .r315) (e .highest) (omega (arith, ltb-true (e .highest) (10 * s .r315 - 500) h))
+low-not-high s e h = not-both (cellTooHigh s e) (λ l. omega (arith, leb-true, ltb-true))
 
 -- in whole numbers
-false-of : (t : Bool) → (T t → ⊥) → t ≡ false
-false-of true f = absurd (f tt)
-false-of false f = refl
-
 up : (z : ℤ) (n : ℕ) → z ≤ℤ (z +ℤ pos n)
 up (pos a) n = leZ-yes (le→leb a (a + n) (omega arith))
 up (negsuc a) n = leZ-yes (go (ltb n (suc a)))
@@ -46,7 +46,7 @@ down z n = rw (-ℤ-+ℤ-cancel z (pos n)) at (up (z -ℤ pos n) n)
 -- a < b, with a at least a′ and b at most b′, excludes b′ ≤ a′
 excluded : (a b a′ b′ : ℤ) → a′ ≤ℤ a → b ≤ℤ b′ → ltZ a b ≡ true → leZ b′ a′ ≡ false
 excluded a b a′ b′ p q h =
-    false-of (leZ b′ a′) (λ t. clashℤ (<ℤ-≤ℤ-trans (<ℤ-≤ℤ-trans (ltZ-yes {a = a} {b = b} (subst T (sym h) tt)) q) (leZ-yes {a = b′} {b = a′} t)) p)
+    not-both (leZ b′ a′) (λ l. clashℤ (<ℤ-≤ℤ-trans (<ℤ-≤ℤ-trans (ltZ-yes {a = a} {b = b} (subst T (sym h) tt)) q) (leZ-yes {a = b′} {b = a′} (subst T (sym l) tt))) p)
 
 pub cool-not-hot : (s : Settings) (t : ℤ) → cool s t ≡ true → hot s t ≡ false
 cool-not-hot s t = excluded t (pos (10 * s .r319) -ℤ pos 50) t (pos (10 * s .r319)) (≤ℤ-refl t) (down (pos (10 * s .r319)) 50)

@@ -1,4 +1,4 @@
--- The limits of P6, P7 and P8 of document 01 on the guard alone, and a cold sensor below zero, computed.
+-- The limits of P6 of document 01 on the guard alone, and of a cold sensor at zero, computed.
 -- Assumes nothing.
 use mathlib.Core.Path.{_≡_, refl}
 use mathlib.Core.Bool.{true, false}

@@ -1,5 +1,5 @@
 -- The seven conditions, in the order of document 01's table: what holds, what recovers, and what is latched after a tick.
--- The cells enter by their lowest and highest: a cell is at most k exactly if the lowest is (crate `cells`, proofs/Some).
+-- The cells enter by their lowest and highest; proofs/CellRows shows that the rows UV and OV then say what they say of all cells.
 -- Assumes nothing.
 use mathlib.Core.Bool.{Bool, false, _&&_, _||_, not, cond}
 use Prim.Native.Nat.{ℕ, _*_, _-_}
