@@ -1,22 +1,14 @@
-// A line into the call that it asks for, and the call into its answer.
-use crate::answers::State;
-use crate::answers::put_crc;
-use crate::answers::put_end;
-use crate::answers::put_reply;
-use crate::answers::put_state;
-use crate::answers::put_wrong;
-use crate::lines::least;
-use crate::words::List;
-use crate::words::after_word;
-use crate::words::bytes;
-use crate::words::cells;
-use crate::words::is_last;
-use crate::words::next_word;
-use crate::words::number;
-use crate::words::signed_number;
-use board::Answer;
-use board::Board;
+// A line into the call that it asks for.
+ghost use Prim.Native.Nat.{_≤_};
 use readings::Readings;
+use text::Series;
+use text::after_word;
+use text::bytes;
+use text::is_last;
+use text::next_word;
+use text::number;
+use text::numbers;
+use text::signed_number;
 
 const LONGEST_LINE: usize = 4000;
 
@@ -24,7 +16,7 @@ pub(crate) const MOST_BYTES: usize = 300;
 
 pub(crate) const MOST_CELLS: usize = 32;
 
-const MOST_ROOM: usize = 600;
+pub(crate) const MOST_ROOM: usize = 600;
 
 const COMMENT: u8 = b'#';
 
@@ -36,90 +28,7 @@ pub(crate) enum Call {
     Tick { readings: Readings, count: usize },
     Frame { room: usize, count: usize },
     Handover,
-    Crc(usize),
-}
-
-// The board after a call, and how many bytes of answers wait to be written.
-pub(crate) struct After {
-    pub board: Board,
-    pub said: usize,
-}
-
-// The call's answer as a line after those that wait already.
-pub(crate) fn answered(
-    board: Board,
-    call: Call,
-    request: &[u8],
-    voltages: &[u16],
-    out: &mut [u8],
-    said: usize,
-) -> After {
-    match call {
-        Call::Nothing => After { board, said },
-        Call::Wrong => After {
-            board,
-            said: put_wrong(out, said),
-        },
-        Call::Start { cells, per_km } => told(Board::start(cells, per_km), out, said),
-        Call::Tick { readings, count } => ticked(board, readings, count, voltages, out, said),
-        Call::Frame { room, count } => {
-            let length = least(count, request.len());
-            framed(board, &request[0..length], room, out, said)
-        }
-        Call::Handover => told(board.handover(), out, said),
-        Call::Crc(count) => {
-            let length = least(count, request.len());
-            After {
-                board,
-                said: put_crc(out, said, crc::crc(&request[0..length])),
-            }
-        }
-    }
-}
-
-pub(crate) fn ticked(
-    board: Board,
-    readings: Readings,
-    count: usize,
-    voltages: &[u16],
-    out: &mut [u8],
-    said: usize,
-) -> After {
-    let given = least(count, voltages.len());
-    told(board.tick(&voltages[0..given], readings), out, said)
-}
-
-fn told(answer: Answer, out: &mut [u8], said: usize) -> After {
-    let next = put_state(out, said, state_of(answer));
-    let end = put_end(out, next);
-    let board = answer.board;
-    After { board, said: end }
-}
-
-// The reply buffer is filled with 0x5A, so that a byte that a frame leaves alone shows.
-fn framed(board: Board, request: &[u8], room: usize, out: &mut [u8], said: usize) -> After {
-    let mut reply = [0x5Au8; MOST_ROOM];
-    let free = least(room, MOST_ROOM);
-    framed_in(board, request, &mut reply[0..free], out, said)
-}
-
-fn framed_in(board: Board, request: &[u8], reply: &mut [u8], out: &mut [u8], said: usize) -> After {
-    let answer = board.frame(request, reply);
-    let state = put_state(out, said, state_of(answer));
-    let bytes = put_reply(out, state, reply);
-    let end = put_end(out, bytes);
-    let board = answer.board;
-    After { board, said: end }
-}
-
-fn state_of(answer: Answer) -> State {
-    State {
-        number: answer.number,
-        charge: answer.board.charge_switch(),
-        discharge: answer.board.discharge_switch(),
-        need: answer.board.decision_bits(),
-        real: answer.board.balancing_bits(),
-    }
+    Crc(u16),
 }
 
 // What a line, without its end, asks for. A comment and a line of spaces alone ask for nothing, however long.
@@ -174,18 +83,18 @@ fn start_call(line: &[u8], from: usize) -> Call {
 }
 
 fn tick_call(line: &[u8], from: usize, voltages: &mut [u16]) -> Call {
-    let current = signed_number(line, from, 2147483648);
-    let internal = signed_number(line, current.next, 32768);
-    let external1 = signed_number(line, internal.next, 32768);
-    let external2 = signed_number(line, external1.next, 32768);
+    let current = signed_number(line, from, 2147483647);
+    let internal = signed_number(line, current.next, 32767);
+    let external1 = signed_number(line, internal.next, 32767);
+    let external2 = signed_number(line, external1.next, 32767);
     let pulses = number(line, external2.next, 65535);
     let charger = number(line, pulses.next, 1);
     let ignition = number(line, charger.next, 1);
     if !ignition.good {
         return Call::Wrong;
     }
-    let given = cells(line, ignition.next, voltages);
-    let List::Of(count) = given else {
+    let given = numbers(line, ignition.next, voltages);
+    let Series::Of(count) = given else {
         return Call::Wrong;
     };
     Call::Tick {
@@ -203,12 +112,12 @@ fn tick_call(line: &[u8], from: usize, voltages: &mut [u16]) -> Call {
 }
 
 fn frame_call(line: &[u8], from: usize, request: &mut [u8]) -> Call {
-    let room = number(line, from, MOST_ROOM as u64);
+    let room = number(line, from, MOST_ROOM as u32);
     if !room.good {
         return Call::Wrong;
     }
     let given = bytes(line, room.next, request);
-    let List::Of(count) = given else {
+    let Series::Of(count) = given else {
         return Call::Wrong;
     };
     Call::Frame {
@@ -227,10 +136,11 @@ fn handover_call(line: &[u8], from: usize) -> Call {
 
 fn crc_call(line: &[u8], from: usize, request: &mut [u8]) -> Call {
     let given = bytes(line, from, request);
-    let List::Of(count) = given else {
+    let Series::Of(count) = given else {
         return Call::Wrong;
     };
-    Call::Crc(count)
+    let length = least(count, request.len());
+    Call::Crc(crc::crc(&request[0..length]))
 }
 
 // The temperature that `signed_number` told as 32768 more.
@@ -246,4 +156,10 @@ fn lowered_32(value: u64) -> i32 {
     } else {
         (bits - 2147483648) as i32
     }
+}
+
+pub(crate) fn least(a: usize, b: usize) -> usize
+    ensures { λ r. ⌜ r ≤ b ⌝ }
+{
+    if a < b { a } else { b }
 }

@@ -1,21 +1,23 @@
-// The bench console's text: calls of the board as lines on standard input, an answer line for each on standard output.
+// The bench console: calls of the board as lines on standard input, an answer line for each on standard output.
 mod answers;
 mod calls;
-mod lines;
-mod words;
 
-use crate::calls::After;
+ghost use Prim.Native.Nat.{_≤_};
+ghost use lib.ListN.{length};
+use crate::answers::State;
+use crate::answers::put_answer;
 use crate::calls::Call;
 use crate::calls::MOST_BYTES;
 use crate::calls::MOST_CELLS;
-use crate::calls::answered;
+use crate::calls::MOST_ROOM;
 use crate::calls::call_of;
-use crate::calls::ticked;
-use crate::lines::appended;
-use crate::lines::least;
-use crate::lines::line_end;
-use crate::lines::without_cr;
+use crate::calls::least;
+use board::Answer;
 use board::Board;
+use text::LF;
+use text::appended;
+use text::line_end;
+use text::without_cr;
 
 const INPUT: i32 = 0;
 
@@ -26,11 +28,8 @@ const MESSAGES: i32 = 2;
 // Answers are written before fewer bytes than this are free: the longest has 1,819.
 const ANSWER_ROOM: usize = 2048;
 
-// What goes from block to block: the board, and how much of an unfinished line is carried over.
-struct Desk {
-    board: Board,
-    held: usize,
-}
+// What a reply buffer holds before a frame, so that a byte that the frame leaves alone shows.
+const FILLING: u8 = 0x5A;
 
 // Answers standard input on standard output until the input ends.
 pub fn serve() {
@@ -39,6 +38,7 @@ pub fn serve() {
     let mut out = io::large_buffer();
     let mut request = [0u8; MOST_BYTES];
     let mut voltages = [0u16; MOST_CELLS];
+    let mut reply = [0u8; MOST_ROOM];
     let prompts = libc::isatty(INPUT) == 1;
     answer_all(
         prompts,
@@ -46,10 +46,12 @@ pub fn serve() {
         &mut line,
         &mut request,
         &mut voltages,
+        &mut reply,
         &mut out,
     );
 }
 
+// Before the first start there is a board that was started with 0 cells. The board goes along in its last answer.
 // A proved loop has to end, and nothing says that the input does: no run uses up so many turns.
 fn answer_all(
     prompts: bool,
@@ -57,25 +59,30 @@ fn answer_all(
     line: &mut [u8],
     request: &mut [u8],
     voltages: &mut [u16],
+    reply: &mut [u8],
     out: &mut [u8],
 ) {
-    let mut desk = new_desk();
+    let mut answer = Board::start(0, 0);
+    let mut held = 0;
     let mut turns = u64::MAX;
     let mut count = block_read(prompts, block);
     while 0 < turns && 0 < count {
         let part = least(count, block.len());
-        desk = block_answered(desk, &block[0..part], line, request, voltages, out);
+        answer = block_answered(
+            answer,
+            &block[0..part],
+            line,
+            held,
+            request,
+            voltages,
+            reply,
+            out,
+        );
+        held = carried(line, held, &block[0..part]);
         count = block_read(prompts, block);
         turns -= 1;
     }
-    last_answered(desk, line, request, voltages, out);
-}
-
-// Before the first start there is a board that was started with 0 cells.
-fn new_desk() -> Desk {
-    let answer = Board::start(0, 0);
-    let board = answer.board;
-    Desk { board, held: 0 }
+    last_answered(answer, line, held, request, voltages, reply, out);
 }
 
 // One read; 0 at the end of the input, or where it cannot be read.
@@ -87,17 +94,17 @@ fn block_read(prompts: bool, block: &mut [u8]) -> usize {
     io::count(got, block)
 }
 
-// Every line that the block ends; what stands after the last of them is carried over.
+// Every line that the block ends; of the first of them so many bytes are held.
 fn block_answered(
-    desk: Desk,
+    mut answer: Answer,
     block: &[u8],
     line: &mut [u8],
+    mut held: usize,
     request: &mut [u8],
     voltages: &mut [u16],
+    reply: &mut [u8],
     out: &mut [u8],
-) -> Desk {
-    let mut board = desk.board;
-    let mut held = desk.held;
+) -> Answer {
     let mut said = 0;
     let mut from = 0;
     let mut end = line_end(block, from);
@@ -106,61 +113,118 @@ fn block_answered(
         from = end + 1;
         end = line_end(block, from);
         held = 0;
-        let after = line_answered(board, call, request, voltages, out, said);
-        board = after.board;
-        said = with_room(out, after.said);
+        answer = made(answer, call, request, voltages, reply);
+        said = put_answer(out, said, call, state_of(answer), reply);
+        said = with_room(out, said);
     }
     written(out, said);
-    held = appended(line, held, &block[from..]);
-    Desk { board, held }
+    answer
 }
 
-// Nearly every line is a tick. Where it does not go by the other calls' code, its board is copied less.
-fn line_answered(
-    board: Board,
-    call: Call,
-    request: &[u8],
-    voltages: &[u16],
-    out: &mut [u8],
-    said: usize,
-) -> After {
-    match call {
-        Call::Tick { readings, count } => ticked(board, readings, count, voltages, out, said),
-        _ => answered(board, call, request, voltages, out, said),
+// What a block leaves of an unfinished line is carried over.
+fn carried(line: &mut [u8], held: usize, block: &[u8]) -> usize {
+    let from = last_line(block);
+    if from == 0 {
+        appended(line, held, block)
+    } else {
+        appended(line, 0, &block[from..])
     }
+}
+
+// The place after the last LF; 0 where there is none.
+fn last_line(block: &[u8]) -> usize
+    ensures { λ r. ⌜ r ≤ length (now (block .entry)) ⌝ }
+{
+    let mut count = block.len();
+    while 0 < count {
+        if block[count - 1] == LF {
+            return count;
+        }
+        count -= 1;
+    }
+    0
 }
 
 // The call of a line whose last piece this is. A line that stands whole in the block is not copied.
 fn piece_call(
     piece: &[u8],
     line: &mut [u8],
-    before: usize,
+    held: usize,
     request: &mut [u8],
     voltages: &mut [u16],
 ) -> Call {
-    if before == 0 {
-        let length = without_cr(piece);
-        return call_of(&piece[0..length], request, voltages);
+    if held == 0 {
+        return whole_call(piece, request, voltages);
     }
-    let held = appended(line, before, piece);
-    let whole = least(held, line.len());
-    let length = without_cr(&line[0..whole]);
+    let all = appended(line, held, piece);
+    let length = least(all, line.len());
+    whole_call(&line[0..length], request, voltages)
+}
+
+fn whole_call(line: &[u8], request: &mut [u8], voltages: &mut [u16]) -> Call {
+    let length = without_cr(line);
     call_of(&line[0..length], request, voltages)
 }
 
 // The last line, where it lacks its end; a CR there is a byte of it.
 fn last_answered(
-    desk: Desk,
+    before: Answer,
     line: &[u8],
+    held: usize,
     request: &mut [u8],
     voltages: &mut [u16],
+    reply: &mut [u8],
     out: &mut [u8],
 ) {
-    let held = least(desk.held, line.len());
-    let call = call_of(&line[0..held], request, voltages);
-    let board = desk.board;
-    let after = answered(board, call, request, voltages, out, 0);
-    written(out, after.said);
+    let whole = least(held, line.len());
+    let call = call_of(&line[0..whole], request, voltages);
+    let answer = made(before, call, request, voltages, reply);
+    let said = put_answer(out, 0, call, state_of(answer), reply);
+    written(out, said);
+}
+
+// A call that is made on the board; a line that is none leaves it alone.
+fn made(before: Answer, call: Call, request: &[u8], voltages: &[u16], reply: &mut [u8]) -> Answer {
+    match call {
+        Call::Nothing => before,
+        Call::Wrong => before,
+        Call::Start { cells, per_km } => Board::start(cells, per_km),
+        Call::Tick { readings, count } => {
+            let given = least(count, voltages.len());
+            before.board.tick(&voltages[0..given], readings)
+        }
+        Call::Frame { room, count } => {
+            let length = least(count, request.len());
+            let lent = least(room, reply.len());
+            framed(before, &request[0..length], &mut reply[0..lent])
+        }
+        Call::Handover => before.board.handover(),
+        Call::Crc(_) => before,
+    }
+}
+
+fn framed(before: Answer, request: &[u8], reply: &mut [u8]) -> Answer {
+    fill(reply);
+    before.board.frame(request, reply)
+}
+
+fn fill(reply: &mut [u8]) {
+    let mut i = 0;
+    while i < reply.len() {
+        reply[i] = FILLING;
+        i += 1;
+    }
+}
+
+// What is shown after a call.
+fn state_of(answer: Answer) -> State {
+    State {
+        number: answer.number,
+        charge: answer.board.charge_switch(),
+        discharge: answer.board.discharge_switch(),
+        need: answer.board.decision_bits(),
+        real: answer.board.balancing_bits(),
+    }
 }
 
 // How many bytes of answers wait, once there is room for another.

@@ -1,27 +1,28 @@
 -- The measure is the number of turns that are left; each buffer keeps its length. Assumes nothing.
 use mathlib.Core.Path.{_≡_}
+use native.Mathlib.Omega.{arith}
 use lib.ListN.{length}
 use borrow.Author.Needs.{needs}
 use Rattle.terminal.proofs.answer_all.Statement.{statement}
 use Rattle.terminal.proofs.answer_all.Tie as tie
 
 abbrev Inv-loop : tie.InvT-loop
-Inv-loop prompts block₀ line₀ request₀ voltages₀ out₀ desk₀ turns₀ count₀ block line request voltages out desk turns count = (length block ≡ length block₀) × (length line ≡ length line₀) × (length request ≡ length request₀) × (length voltages ≡ length voltages₀) × (length out ≡ length out₀)
+Inv-loop prompts block₀ line₀ request₀ voltages₀ reply₀ out₀ answer₀ held₀ turns₀ count₀ block line request voltages reply out answer held turns count = (length block ≡ length block₀) × (length line ≡ length line₀) × (length request ≡ length request₀) × (length voltages ≡ length voltages₀) × (length reply ≡ length reply₀) × (length out ≡ length out₀)
 
 abbrev μ-loop : tie.MeasureT-loop
-μ-loop prompts block₀ line₀ request₀ voltages₀ out₀ desk₀ turns₀ count₀ block line request voltages out desk turns count = turns
+μ-loop prompts block₀ line₀ request₀ voltages₀ reply₀ out₀ answer₀ held₀ turns₀ count₀ block line request voltages reply out answer held turns count = turns
 
-new-desk-requires : tie.Need-new-desk-requires Inv-loop μ-loop
-new-desk-requires c κs = search needs
+start-requires : tie.Need-start-requires Inv-loop μ-loop
+start-requires c κs = tt
 
 block-read-requires : tie.Need-block-read-requires Inv-loop μ-loop
-block-read-requires c κs = search needs
+block-read-requires c κs = tt
 
 loop-holds : tie.Need-loop-holds Inv-loop μ-loop
 loop-holds c = search needs
 
 least-requires : tie.Need-least-requires Inv-loop μ-loop
-least-requires c κs = search needs
+least-requires c κs = tt
 
 sub-block-answered : tie.Need-sub-block-answered Inv-loop μ-loop
 sub-block-answered c = search needs
@@ -33,22 +34,37 @@ part-block-answered-end : tie.Need-part-block-answered-end Inv-loop μ-loop
 part-block-answered-end c = search needs
 
 block-answered-requires : tie.Need-block-answered-requires Inv-loop μ-loop
-block-answered-requires c κs = search needs
+block-answered-requires c κs = tt
+
+sub-carried : tie.Need-sub-carried Inv-loop μ-loop
+sub-carried c = search needs
+
+part-carried-start : tie.Need-part-carried-start Inv-loop μ-loop
+part-carried-start c = search needs
+
+part-carried-end : tie.Need-part-carried-end Inv-loop μ-loop
+part-carried-end c = search needs
+
+carried-requires : tie.Need-carried-requires Inv-loop μ-loop
+carried-requires c κs = tt
 
 block-read-requires-2 : tie.Need-block-read-requires-2 Inv-loop μ-loop
-block-read-requires-2 c κs = search needs
+block-read-requires-2 c κs = tt
 
 sub-turns : tie.Need-sub-turns Inv-loop μ-loop
-sub-turns c = search needs
+sub-turns c = omega (arith, c .before .before .before .before .before .before .before .before .before .before .before .before .before .before .before .before .before .before .before .before .before .before .before .before .before .before .before)
 
 loop-less : tie.Need-loop-less Inv-loop μ-loop
-loop-less c = search needs
+loop-less c = omega (arith, c .before .before .before .before .before .before .before .before .before .before .before .before .before .before .before .before .before .before .before .before .before .before .before .before .before .before .before)
 
 loop-again : tie.Need-loop-again Inv-loop μ-loop
-loop-again c = search needs
+loop-again c =
+    let inv = c .before .before .before .before .before .before .before .before .before .before .before .before .before .before .before .before .before .before .before .before .before .before .before .before .before .before .before .before .before .before .before .loop .inv in
+    let done = c .before .before .before .before .before .before .before .before .before .before in
+    (omega (arith, inv), omega (arith, inv, done), omega (arith, inv, done), omega (arith, inv, done), omega (arith, inv, done), omega (arith, inv, done))
 
 last-answered-requires : tie.Need-last-answered-requires Inv-loop μ-loop
-last-answered-requires c κs = search needs
+last-answered-requires c κs = tt
 
 same-length : tie.Need-same-length Inv-loop μ-loop
 same-length c = search needs
@@ -65,6 +81,9 @@ same-length-4 c = search needs
 same-length-5 : tie.Need-same-length-5 Inv-loop μ-loop
 same-length-5 c = search needs
 
+same-length-6 : tie.Need-same-length-6 Inv-loop μ-loop
+same-length-6 c = search needs
+
 returns : tie.Need-returns Inv-loop μ-loop
 returns c = search needs
 
@@ -74,7 +93,7 @@ answer-all-spec =
     (tie.spec
     Inv-loop
     μ-loop
-    new-desk-requires
+    start-requires
     block-read-requires
     loop-holds
     least-requires
@@ -82,6 +101,10 @@ answer-all-spec =
     part-block-answered-start
     part-block-answered-end
     block-answered-requires
+    sub-carried
+    part-carried-start
+    part-carried-end
+    carried-requires
     block-read-requires-2
     sub-turns
     loop-less
@@ -92,4 +115,5 @@ answer-all-spec =
     same-length-3
     same-length-4
     same-length-5
+    same-length-6
     returns)

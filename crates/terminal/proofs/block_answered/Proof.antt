@@ -1,4 +1,4 @@
--- Each turn goes one line on; what is left begins within the block, and each buffer keeps its length. Assumes nothing.
+-- Each turn goes one line on, and each buffer keeps its length. Assumes nothing.
 use mathlib.Core.Path.{_≡_}
 use Prim.Native.Nat.{_≤_, _-_}
 use native.Mathlib.Omega.{arith}
@@ -8,13 +8,13 @@ use Rattle.terminal.proofs.block_answered.Statement.{statement}
 use Rattle.terminal.proofs.block_answered.Tie as tie
 
 abbrev Inv-loop : tie.InvT-loop
-Inv-loop block line₀ request₀ voltages₀ out₀ board₀ held₀ said₀ from₀ end₀ line request voltages out board held said from end = (from ≤ end) × (from ≤ length block) × (length line ≡ length line₀) × (length request ≡ length request₀) × (length voltages ≡ length voltages₀) × (length out ≡ length out₀)
+Inv-loop answer₀ block line₀ held₀ request₀ voltages₀ reply₀ out₀ said₀ from₀ end₀ answer line held request voltages reply out said from end = (from ≤ end) × (length line ≡ length line₀) × (length request ≡ length request₀) × (length voltages ≡ length voltages₀) × (length reply ≡ length reply₀) × (length out ≡ length out₀)
 
 abbrev μ-loop : tie.MeasureT-loop
-μ-loop block line₀ request₀ voltages₀ out₀ board₀ held₀ said₀ from₀ end₀ line request voltages out board held said from end = length block - from
+μ-loop answer₀ block line₀ held₀ request₀ voltages₀ reply₀ out₀ said₀ from₀ end₀ answer line held request voltages reply out said from end = length block - end
 
 line-end-requires : tie.Need-line-end-requires Inv-loop μ-loop
-line-end-requires c κs = search needs
+line-end-requires c κs = tt
 
 loop-holds : tie.Need-loop-holds Inv-loop μ-loop
 loop-holds c = search needs
@@ -29,42 +29,36 @@ part-piece-call-end : tie.Need-part-piece-call-end Inv-loop μ-loop
 part-piece-call-end c = search needs
 
 piece-call-requires : tie.Need-piece-call-requires Inv-loop μ-loop
-piece-call-requires c κs = search needs
+piece-call-requires c κs = tt
 
 add-from : tie.Need-add-from Inv-loop μ-loop
 add-from c = search needs
 
 line-end-requires-2 : tie.Need-line-end-requires-2 Inv-loop μ-loop
-line-end-requires-2 c κs = search needs
+line-end-requires-2 c κs = tt
 
-line-answered-requires : tie.Need-line-answered-requires Inv-loop μ-loop
-line-answered-requires c κs = search needs
+made-requires : tie.Need-made-requires Inv-loop μ-loop
+made-requires c κs = tt
+
+state-of-requires : tie.Need-state-of-requires Inv-loop μ-loop
+state-of-requires c κs = tt
+
+put-answer-requires : tie.Need-put-answer-requires Inv-loop μ-loop
+put-answer-requires c κs = tt
 
 with-room-requires : tie.Need-with-room-requires Inv-loop μ-loop
-with-room-requires c κs = search needs
+with-room-requires c κs = tt
 
 loop-less : tie.Need-loop-less Inv-loop μ-loop
-loop-less c = omega (arith, c .before .before .before .before .before .before .before .before .before)
+loop-less c = omega (arith, c .before .before .before .before .before .before .before .before .before .before .before .before .before .before)
 
 loop-again : tie.Need-loop-again Inv-loop μ-loop
 loop-again c =
-    let next = c .before .before .before .before .before .before .before .before .before in
+    let next = c .before .before .before .before .before .before .before .before .before .before .before .before .before .before in
     (omega (arith, next), omega (arith, next), omega (arith, next), omega (arith, next), omega (arith, next), omega (arith, next))
 
 written-requires : tie.Need-written-requires Inv-loop μ-loop
-written-requires c κs = search needs
-
-sub-appended : tie.Need-sub-appended Inv-loop μ-loop
-sub-appended c = search needs
-
-part-appended-start : tie.Need-part-appended-start Inv-loop μ-loop
-part-appended-start c = search needs
-
-part-appended-end : tie.Need-part-appended-end Inv-loop μ-loop
-part-appended-end c = search needs
-
-appended-requires : tie.Need-appended-requires Inv-loop μ-loop
-appended-requires c κs = search needs
+written-requires c κs = tt
 
 same-length : tie.Need-same-length Inv-loop μ-loop
 same-length c = search needs
@@ -77,6 +71,9 @@ same-length-3 c = search needs
 
 same-length-4 : tie.Need-same-length-4 Inv-loop μ-loop
 same-length-4 c = search needs
+
+same-length-5 : tie.Need-same-length-5 Inv-loop μ-loop
+same-length-5 c = search needs
 
 returns : tie.Need-returns Inv-loop μ-loop
 returns c = search needs
@@ -95,17 +92,16 @@ block-answered-spec =
     piece-call-requires
     add-from
     line-end-requires-2
-    line-answered-requires
+    made-requires
+    state-of-requires
+    put-answer-requires
     with-room-requires
     loop-less
     loop-again
     written-requires
-    sub-appended
-    part-appended-start
-    part-appended-end
-    appended-requires
     same-length
     same-length-2
     same-length-3
     same-length-4
+    same-length-5
     returns)

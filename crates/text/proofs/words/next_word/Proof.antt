@@ -1,0 +1,52 @@
+-- Each turn goes one space on. Assumes nothing.
+use mathlib.Core.Path.{ap}
+use mathlib.Core.Bool.{not}
+use Prim.Native.Nat.{_-_}
+use borrow.Author.Tests.{eq-eqb, ne-eqb}
+use lib.ListN.{length}
+use Rattle.text.specs.Words.{isNoSpace}
+use Rattle.text.proofs.Places.{Ahead, here, one-on, at-first, at-end}
+use borrow.Author.Needs.{needs}
+use Rattle.text.proofs.words.next_word.Statement.{statement}
+use Rattle.text.proofs.words.next_word.Tie as tie
+
+abbrev Inv-loop : tie.InvT-loop
+Inv-loop line from at₀ at = Ahead isNoSpace line from at
+
+abbrev μ-loop : tie.MeasureT-loop
+μ-loop line from at₀ at = length line - at
+
+loop-holds : tie.Need-loop-holds Inv-loop μ-loop
+loop-holds c = here
+
+shared-slice-read-if1 : tie.Need-shared-slice-read-if1 Inv-loop μ-loop
+shared-slice-read-if1 c = search needs
+
+returns : tie.Need-returns Inv-loop μ-loop
+returns c = at-first (c .before .before .before .loop .inv) (search needs) (ap not (ne-eqb _ _ (c .if1 .taken)))
+
+add-at : tie.Need-add-at Inv-loop μ-loop
+add-at c = search needs
+
+loop-less : tie.Need-loop-less Inv-loop μ-loop
+loop-less c = search needs
+
+loop-again : tie.Need-loop-again Inv-loop μ-loop
+loop-again c = one-on (c .before .before .before .loop .inv) (search needs) (ap not (eq-eqb _ _ (c .if1 .left)))
+
+returns-2 : tie.Need-returns-2 Inv-loop μ-loop
+returns-2 c = at-end (c .before .loop .inv) (search needs)
+
+pub next-word-spec : {M : Type 1} → statement M
+next-word-spec =
+    tie.close
+    (tie.spec
+    Inv-loop
+    μ-loop
+    loop-holds
+    shared-slice-read-if1
+    returns
+    add-at
+    loop-less
+    loop-again
+    returns-2)

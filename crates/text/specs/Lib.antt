@@ -1,0 +1,6 @@
+pub mod Lines
+pub mod Words
+pub mod Numbers
+pub mod Digits
+pub mod Scan
+mod Facts
