@@ -1,22 +1,17 @@
 -- Each public call's promise determines its number, the state and every byte lent to it, refusals too: any two results allowed by it
--- are equal. And what it determines is the behaviour's step.
+-- are equal. And what it determines is the behaviour's step. The promises are those that the functions cite, by their names.
 -- Assumes nothing.
 use mathlib.Core.Path.{_≡_, sym, _∙_}
 use mathlib.Core.Bool.{Bool}
 use mathlib.Core.List.{List, []}
-use Prim.Native.Nat.{ℕ, _≤_}
+use Prim.Native.Nat.{ℕ}
 use lib.ListN.{length}
 use Rattle.events.specs.declared.Event.{Event}
-use Rattle.events.specs.Events.{capacity, keptCount, newCount, keptOf, newOf, placed}
 use Rattle.readings.specs.declared.Readings.{Readings}
 use Rattle.board.specs.declared.Board.{Board}
 use Rattle.board.specs.declared.Answer.{Answer}
 use Rattle.board.specs.declared.Shown.{Shown}
-use Rattle.board.specs.Start.{startOf}
-use Rattle.board.specs.Tick.{tickOf}
-use Rattle.board.specs.Handover.{handoverOf}
-use Rattle.board.specs.Registers.{shownAt}
-use Rattle.board.specs.Frames.{Frames}
+use Rattle.board.specs.Promises.{Starts, Ticks, HandsOver, Frames, ShowsRegister, ShowsCharge, ShowsDischarge, ShowsDecision, ShowsBalancing, ShowsLifetime, CountsKept, ShowsKept, CountsNew, ShowsNew}
 use Rattle.board.specs.Calls.{Seen, seen, framed, step, tick, frame, handover}
 
 -- any two results that a promise allows are equal
@@ -32,21 +27,21 @@ answered b s before r after f = λ i. record { number = f .number i; board = f .
 
 -- the public calls, and what is read off a board
 pub record Promises : Type 0 where
-  pub start : (cells perKm : ℕ) → Determines Answer (λ r. r ≡ startOf cells perKm)
-  pub ticked : (b : Board) (cells : List ℕ) (rd : Readings) → Determines Answer (λ r. r ≡ tickOf b cells rd)
+  pub start : (cells perKm : ℕ) → Determines Answer (Starts cells perKm)
+  pub ticked : (b : Board) (cells : List ℕ) (rd : Readings) → Determines Answer (Ticks b cells rd)
   pub framed : (b : Board) (s before : List ℕ) (r r′ : Answer) (after after′ : List ℕ)
       → Frames b s before r after → Frames b s before r′ after′ → (r ≡ r′) × (after ≡ after′)
-  pub handed : (b : Board) → Determines Answer (λ r. r ≡ handoverOf b)
-  pub register : (b : Board) (at : ℕ) → Determines Shown (λ r. r ≡ shownAt b at)
-  pub charge : (b : Board) → Determines Bool (λ r. r ≡ b .hire .charge)
-  pub discharge : (b : Board) → Determines Bool (λ r. r ≡ b .hire .discharge)
-  pub decision : (b : Board) → Determines ℕ (λ r. r ≡ b .hire .decision)
-  pub balancing : (b : Board) → Determines ℕ (λ r. r ≡ b .hire .balancing)
-  pub lifetime : (b : Board) → Determines ℕ (λ r. r ≡ b .pack .clock .seconds)
-  pub keptCounted : (b : Board) → Determines ℕ (λ r. (r ≡ keptCount (b .hire .events)) × (r ≤ capacity))
-  pub keptEvent : (b : Board) (n : ℕ) → Determines Event (λ r. r ≡ placed (keptOf (b .hire .events)) n)
-  pub newCounted : (b : Board) → Determines ℕ (λ r. (r ≡ newCount (b .hire .events)) × (r ≤ capacity))
-  pub newEvent : (b : Board) (n : ℕ) → Determines Event (λ r. r ≡ placed (newOf (b .hire .events)) n)
+  pub handed : (b : Board) → Determines Answer (HandsOver b)
+  pub register : (b : Board) (at : ℕ) → Determines Shown (ShowsRegister b at)
+  pub charge : (b : Board) → Determines Bool (ShowsCharge b)
+  pub discharge : (b : Board) → Determines Bool (ShowsDischarge b)
+  pub decision : (b : Board) → Determines ℕ (ShowsDecision b)
+  pub balancing : (b : Board) → Determines ℕ (ShowsBalancing b)
+  pub lifetime : (b : Board) → Determines ℕ (ShowsLifetime b)
+  pub keptCounted : (b : Board) → Determines ℕ (CountsKept b)
+  pub keptEvent : (b : Board) (n : ℕ) → Determines Event (ShowsKept b n)
+  pub newCounted : (b : Board) → Determines ℕ (CountsNew b)
+  pub newEvent : (b : Board) (n : ℕ) → Determines Event (ShowsNew b n)
 
 pub tight : Promises
 tight =
@@ -69,11 +64,11 @@ tight =
 
 -- ---- a result that a promise allows is the behaviour's step
 
-pub tick-steps : (b : Board) (cells : List ℕ) (rd : Readings) (r : Answer) → r ≡ tickOf b cells rd → _≡_ {A = Board × Seen} (r .board, seen r []) (step b (tick cells rd))
+pub tick-steps : (b : Board) (cells : List ℕ) (rd : Readings) (r : Answer) → Ticks b cells rd r → _≡_ {A = Board × Seen} (r .board, seen r []) (step b (tick cells rd))
 unfolding step
 tick-steps b cells rd r p = λ i. (p i .board, seen (p i) [])
 
-pub handover-steps : (b : Board) (r : Answer) → r ≡ handoverOf b → _≡_ {A = Board × Seen} (r .board, seen r []) (step b handover)
+pub handover-steps : (b : Board) (r : Answer) → HandsOver b r → _≡_ {A = Board × Seen} (r .board, seen r []) (step b handover)
 unfolding step
 handover-steps b r p = λ i. (p i .board, seen (p i) [])
 

@@ -2,7 +2,6 @@
 -- Assumes nothing.
 use mathlib.Core.Bool.{Bool, cond}
 use mathlib.Core.List.{List, [], _∷_, _++_}
-use mathlib.Core.Path.{_≡_}
 use Prim.Native.Nat.{ℕ, _+_, _*_}
 use lib.Dec.{eqb, ltb}
 use lib.ListN.{length}
@@ -12,7 +11,6 @@ use Rattle.settings.specs.Settings as settings
 use Rattle.signed.specs.Signed as signed
 use Rattle.statistics.specs.Statistics.{clearedAt}
 use Rattle.board.specs.declared.Board.{Board}
-use Rattle.board.specs.declared.Answer.{Answer}
 use Rattle.board.specs.declared.Shown.{Shown}
 use Rattle.board.specs.declared.Shown.the-variants.{Register, Nothing}
 use Rattle.requests.specs.declared.Query.{Query}
@@ -133,9 +131,3 @@ frameBoard b s room = cond (usable b) (cond (ltb room 259) b (requestBoard b s (
 
 unfoldable pub frameReply : Board → List ℕ → ℕ → List ℕ
 frameReply b s room = padded room (cond (usable b) (cond (ltb room 259) [] (requestReply b s (requestOf s))) [])
-
--- a frame: its number, the board after it, and every byte of the reply buffer
-pub record Frames (b : Board) (s before : List ℕ) (r : Answer) (after : List ℕ) : Type 0 where
-  pub number : r .number ≡ frameNumber b s (length before)
-  pub board : r .board ≡ frameBoard b s (length before)
-  pub reply : after ≡ frameReply b s (length before)

@@ -5,6 +5,7 @@ pub mod Registers
 pub mod Handover
 pub mod Frames
 pub mod Replies
+pub mod Promises
 pub mod Calls
 pub mod Behaviour
 pub mod Account

@@ -6,8 +6,7 @@ mod tick;
 
 ghost use mathlib.Core.Path.{_≡_};
 ghost use Rattle.board.specs.State.{withHire};
-ghost use Rattle.board.specs.Start.{startOf};
-ghost use Rattle.board.specs.Handover.{handoverOf};
+ghost use Rattle.board.specs.Promises.{Starts, HandsOver};
 use hire::Hire;
 use pack::Pack;
 
@@ -31,7 +30,7 @@ pub enum Shown {
 impl Board {
     // A board with that cell count and those pulses per km; 21 where it is none.
     pub fn start(cells: u8, per_km: u16) -> Answer
-        ensures { λ r. ⌜ r ≡ startOf cells «per_km» ⌝ }
+        ensures { λ r. ⌜ Starts cells «per_km» r ⌝ }
     {
         let pack = Pack::new(cells, per_km);
         let hire = Hire::new(0);
@@ -40,7 +39,7 @@ impl Board {
 
     // The desk's own call, between two riders: a new hire, and the pack as it was. On a usable board it never refuses.
     pub fn handover(self) -> Answer
-        ensures { λ r. ⌜ r ≡ handoverOf self ⌝ }
+        ensures { λ r. ⌜ HandsOver self r ⌝ }
     {
         if !self.pack.is_usable() {
             return self.with_number(21);

@@ -1,6 +1,7 @@
 // A tick: one set of readings.
 ghost use mathlib.Core.Path.{_≡_};
-ghost use Rattle.board.specs.Tick.{sensed, watched, acted, tickedOf, tickOf};
+ghost use Rattle.board.specs.Promises.{Ticks};
+ghost use Rattle.board.specs.Tick.{sensed, watched, acted, tickedOf};
 use crate::Answer;
 use crate::Board;
 use cells::Extremes;
@@ -10,7 +11,7 @@ use readings::Readings;
 impl Board {
     // The cells in 0.1 mV, and the other readings. A refusal changes nothing.
     pub fn tick(self, cells: &[u16], readings: Readings) -> Answer
-        ensures { λ r. ⌜ r ≡ tickOf self (now (cells .entry)) readings ⌝ }
+        ensures { λ r. ⌜ Ticks self (now (cells .entry)) readings r ⌝ }
     {
         let number = self.pack.tick_number(readings, cells.len());
         if number != 0 {
