@@ -1,7 +1,7 @@
 -- The definitions hold many a number to an end, so that every board is safe. On a board that calls reach from a start none of these
 -- ends changes a number (the one of the summed pulses, nothing that is shown). Why: the board is the one that its deeds make
 -- (`account`), and a deed that is a tick was judged good; so each bound is a law of lists over the accepted ticks. Numbers from outside
--- have their machine types, which lists do not carry: where that is needed, `Typed` says it of the cells, and `km-per-hour` of the
+-- have their machine types, which lists do not carry: where that is needed, `Typed` says it of cells and bytes, and `km-per-hour` of the
 -- pulses per km. Ends that the paper itself sets are met, and are not meant here: 48 events, the 65,535 of a count, the 2^32 - 1 of
 -- clock and distance, the byte of whole degrees. Assumes nothing.
 use mathlib.Core.Path.{_≡_, refl, sym, ap, _∙_, subst⁻¹}
@@ -25,6 +25,7 @@ use Rattle.laws.specs.History.{never, since, each, headOr, sum, newest, ago, la
 use Rattle.laws.proofs.Lists.{length-latest, sooner, timer, waited}
 use Rattle.cells.specs.Cells.{sumOf, lowestOf, highestOf}
 use Rattle.events.specs.Events.{capacity, noEvent, keptCount, newCount}
+use Rattle.guard.proofs.CellRows.{CellRows, cell-rows}
 use Rattle.live.specs.Live.{exact, quotient}
 use Rattle.readings.specs.declared.Readings.{Readings}
 use Rattle.readings.specs.declared.Judged.the-variants.{Good, WrongCells, WrongCurrent, NoInternal, WrongPulses}
@@ -64,11 +65,11 @@ module _ {A : Type 0} (P : A → Type 0) where
   all-of law [] = tt
   all-of law (x ∷ xs) = (law x, all-of law xs)
 
-  all-append : (xs ys : List A) → All P xs → All P ys → All P (xs ++ ys)
+  pub all-append : (xs ys : List A) → All P xs → All P ys → All P (xs ++ ys)
   all-append [] ys p q = q
   all-append (x ∷ xs) ys p q = (p .0, all-append xs ys (p .1) q)
 
-  all-reversed : (xs ys : List A) → All P xs → All P ys → All P (reverseAux xs ys)
+  pub all-reversed : (xs ys : List A) → All P xs → All P ys → All P (reverseAux xs ys)
   all-reversed [] ys p q = q
   all-reversed (x ∷ xs) ys p q = all-reversed xs (x ∷ ys) (p .1) (p .0, q)
 
@@ -76,6 +77,10 @@ module _ {A : Type 0} (P : A → Type 0) where
   all-latest zero z xs p q = tt
   all-latest (suc n) z [] p q = all-append (latest n z []) (z ∷ []) (all-latest n z [] p tt) (p, tt)
   all-latest (suc n) z (x ∷ xs) p q = all-append (latest n z xs) (x ∷ []) (all-latest n z xs p (q .1)) (q .0, tt)
+
+  all-so : (Q : A → Type 0) → ((x : A) → Q x → P x) → (xs : List A) → All Q xs → All P xs
+  all-so Q law [] q = tt
+  all-so Q law (x ∷ xs) q = (law x (q .0), all-so Q law xs (q .1))
 
   module _ {B : Type 0} where
     all-mapped : (f : B → A) → ((x : B) → P (f x)) → (xs : List B) → All P (map f xs)
@@ -100,10 +105,10 @@ gathered-within (x ∷ xs) a b =
 
 -- ---- the ticks that were accepted
 
--- the numbers of each tick's cells are of sixteen bits
+-- a tick's cells are of sixteen bits, and a frame's bytes of eight
 abbrev pub TypedCall : Call → Type 0
 TypedCall (tick given r) = All (λ c. c ≤ 65535) given
-TypedCall (frame s room) = Unit {0}
+TypedCall (frame s room) = All (λ byte. byte ≤ 255) s
 TypedCall handover = Unit {0}
 
 abbrev pub Typed : List Call → Type 0
@@ -281,14 +286,27 @@ setting-held s fits = (leb-true (s .r332) 30 (go (leb (s .r332) 30) refl (λ e. 
 abbrev Short : Moment → Type 0
 Short m = m .settings .r332 ≤ 30
 
-moments-short : (cells perKm : ℕ) (cs : List Call) → All Short (momentsAt (deedsOf cells perKm cs))
+abbrev Fitting : Moment → Type 0
+Fitting m = Fits (m .settings)
+
+-- at every accepted tick the settings in force fit
+moments-fit : (cells perKm : ℕ) (cs : List Call) → All Fitting (momentsAt (deedsOf cells perKm cs))
 unfolding deedsOf
-moments-short cells perKm [] = tt
-moments-short cells perKm (c ∷ cs) =
+moments-fit cells perKm [] = tt
+moments-fit cells perKm (c ∷ cs) =
     let h = deedsOf cells perKm cs in
     let ts = row (deedOf cells perKm h c) .ticks in
-    let short = setting-held (settingsAt h) (ranges cells perKm cs) .0 in
-    all-append Short (map (momentOf (settingsAt h)) ts) (momentsAt h) (all-mapped Short (momentOf (settingsAt h)) (λ t. short) ts) (moments-short cells perKm cs)
+    let fits = ranges cells perKm cs in
+    all-append Fitting (map (momentOf (settingsAt h)) ts) (momentsAt h) (all-mapped Fitting (momentOf (settingsAt h)) (λ t. fits) ts) (moments-fit cells perKm cs)
+
+moments-short : (cells perKm : ℕ) (cs : List Call) → All Short (momentsAt (deedsOf cells perKm cs))
+moments-short cells perKm cs = all-so Short Fitting (λ m fits. setting-held (m .settings) fits .0) (momentsAt (deedsOf cells perKm cs)) (moments-fit cells perKm cs)
+
+-- at every accepted tick each row's 'Holds' and 'Recovers' of UV and OV is the paper's sentence about its cells
+pub cell-rows-held : (cells perKm : ℕ) (cs : List Call) → All (λ m. CellRows (m .settings) (m .readings) (m .cells)) (momentsAt (deeds cells perKm cs))
+cell-rows-held cells perKm cs =
+    all-so (λ m. CellRows (m .settings) (m .readings) (m .cells)) Fitting (λ m fits. cell-rows (m .settings) (m .readings) (m .cells) (fits .0))
+    (momentsAt (deeds cells perKm cs)) (moments-fit cells perKm (reverse cs))
 
 -- a wait, and whether its condition is latched
 pub record Wait (latched : Bool) (left : ℕ) : Type 0 where

@@ -4,3 +4,4 @@ pub mod BoundaryTable
 pub mod WrongBoards
 pub mod Needed
 pub mod Invariants
+pub mod ReadsBack

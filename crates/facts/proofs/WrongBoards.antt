@@ -1,10 +1,10 @@
 -- The demands shut out wrong boards. Demand 1: a board that accepts everything, one that leaves a byte of the last reply behind the next,
 -- one that answers 4 where 3 is due, one that answers 0 to a start of three cells. Demand 2: a board that NACKs everything, one that always replies idle, one that answers its first
--- frame and repeats it, statistics with invented counts. Demand 3: a handover that does nothing. Some of the first look the same
+-- frame and repeats it, statistics with invented counts. Demand 3: a handover that does nothing, and one that shows the last rider's switches once more. Some of the first look the same
 -- for two riders: the ones that NACK everything or reply idle meet demand 3, so demand 3 is stated of boards that meet demand 2.
 -- Assumes nothing.
-use mathlib.Core.Path.{_≡_, refl, ap}
-use mathlib.Core.Bool.{Bool, true, false, cond}
+use mathlib.Core.Path.{_≡_, refl, sym, ap}
+use mathlib.Core.Bool.{Bool, true, false, cond, false≢true}
 use mathlib.Core.Logic.{inr}
 use mathlib.Core.List.{List, [], _∷_}
 use Prim.Native.Nat.{ℕ}
@@ -201,3 +201,21 @@ keeping-fails h =
     let e = h 4 2000 (rides true ∷ []) (rides false ∷ []) (events ∷ []) (inr (record { settings = refl; clock = refl; latched = refl; waits = refl })) in
     let z : _≡_ {A = ℕ} 8 4 = ap (byteAt 1 2) e in
     omega arith
+
+-- ---- a handover that forgets, and shows the last rider's switches once more
+
+abbrev lingers : Board → Call → Board × Seen
+lingers b (tick cells r) = step b (tick cells r)
+lingers b (frame s room) = step b (frame s room)
+lingers b handover = (handoverOf b .board, seen (record { number = handoverOf b .number; board = b }) [])
+
+abbrev pub lingering : Behaviour
+lingering = record { State = Board; start = startBoard; started = board .started; step = lingers }
+
+-- of two riders one had a charger: the handover's own answer says which
+pub lingering-fails : ¬ Demand3 lingering
+unfolding accounted
+lingering-fails h =
+    let e = h 4 2000 (rides true ∷ []) (rides false ∷ []) [] (inr (record { settings = refl; clock = refl; latched = refl; waits = refl })) in
+    let z : true ≡ false = ap (λ (answers : List Seen). getD answers 0 (says 0 []) .charge) e in
+    absurd (false≢true (sym z))

@@ -69,7 +69,7 @@ distance-shown perKm h held = go (eqb perKm 0) refl
 
 -- ---- settings: a register reads what the last accepted write that covers it gave it, else its factory value
 
-abbrev Reads : ℕ → (ℕ → ℕ) → List Deed → Type 0
+abbrev pub Reads : ℕ → (ℕ → ℕ) → List Deed → Type 0
 Reads register shown h =
     settings.registerOf (settingsAt h) register
     ≡ headOr (settings.registerOf settings.factory register) (map (λ w. shown (given register w)) (newest (covers register) (each writing (since never h))))

@@ -1,0 +1,275 @@
+-- An accepted write reads back until the next, on the board after any calls: each register of 300 to 399 shows what the last accepted write
+-- that covers it gave it, as it was sent, else its factory value; by its number and in the replies of 0x03 and of 0x1D (current). And the
+-- distance is exact since the clear, rounded once. Why: the board is the one that its deeds make, and an accepted write gave an unlisted register 0.
+-- Assumes nothing.
+use mathlib.Core.Path.{_≡_, refl, sym, ap, _∙_, subst⁻¹}
+use mathlib.Core.Bool.{Bool, true, false, _&&_, _||_, not, cond, false≢true}
+use mathlib.Core.List.{List, [], _∷_, _++_, map, reverse}
+use Prim.Native.Nat.{ℕ, zero, suc, _+_, _*_, _-_, _≤_, _<_}
+use native.Mathlib.Omega.{arith}
+use borrow.Author.Tests.{eqb-true, eqb-false, leb-true, ltb-true, le-leb, lt-leb}
+use lib.Dec.{eqb, leb, ltb}
+use lib.ListN.{length, getD}
+use Rattle.laws.specs.History.{never, since, each, headOr, newest}
+use Rattle.pairs.specs.Pairs.{lowHalf, highHalf}
+use Rattle.readings.specs.Readings as readings
+use Rattle.settings.specs.declared.Settings.{Settings}
+use Rattle.settings.specs.declared.Draft.{Draft}
+use Rattle.settings.specs.declared.Kind.the-variants.{Current}
+use Rattle.settings.specs.declared.Verdict.the-variants.{OutOfRange}
+use Rattle.settings.specs.Settings as settings
+use Rattle.signed.specs.Signed.{bitsOf, fromBits}
+use Rattle.statistics.specs.Statistics as statistics
+use Rattle.pack.specs.Pack.{usableCount}
+use Rattle.wire.specs.Wire.{le16, be16, words}
+use Rattle.requests.specs.declared.Query.the-variants.{Registers, SettingsOf}
+use Rattle.requests.specs.declared.Request.{Request}
+use Rattle.requests.specs.declared.Request.the-variants as request
+use Rattle.requests.specs.Requests.{be16At, requestOf, marks, draftedOf}
+use Rattle.board.specs.declared.Board.{Board}
+use Rattle.board.specs.declared.Shown.the-variants.{Register}
+use Rattle.board.specs.Start.{startBoard}
+use Rattle.board.specs.Registers.{shownAt}
+use Rattle.board.specs.Frames.{valueOf, valueAt, bodyOf, writeNumber}
+use Rattle.board.specs.Calls.{Call, tick, frame, handover}
+use Rattle.board.specs.Behaviour.{board, afterIn}
+use Rattle.board.specs.Account.{Deed, took, wrote, sent, handed, nothing, row, writing, covers, given, settingsAt, distanceAt, boardAt, requestDeed, deedOf, deedsOf}
+use Rattle.board.specs.Demands.{deeds}
+use Rattle.board.proofs.Account.Shown.{reads-back, same-bits, distance-shown}
+use Rattle.board.proofs.Demands.Demand2.{account}
+use Rattle.facts.proofs.Invariants.{All, all-append, all-reversed, TypedCall, Typed}
+
+-- what the last accepted write that covers a register gave it, as it was sent; else its factory value
+abbrev pub lastGiven : ℕ → List Deed → ℕ
+lastGiven at h = headOr (settings.registerOf settings.factory at) (map (given at) (newest (covers at) (each writing (since never h))))
+
+-- ---- what an accepted write gives
+
+-- an unlisted register 0, and any register sixteen bits
+pub record Gives (w : List ℕ × ℕ × ℕ) : Type 0 where
+  pub unlisted : (at : ℕ) → settings.listed at ≡ false → covers at w ≡ true → given at w ≡ 0
+  pub sixteen : (at : ℕ) → given at w < 65536
+
+or-false-left : (a b : Bool) → (a || b) ≡ false → a ≡ false
+or-false-left true b e = absurd (false≢true (sym e))
+or-false-left false b e = refl
+
+-- of a draft with nothing stray, each register that was put and is not listed got 0
+not-stray : (d : Draft) (s : List ℕ) (from n : ℕ) → draftedOf d s from n .stray ≡ false
+    → (i : ℕ) → i < n → settings.listed (300 + from + i) ≡ false → be16At s (7 + 2 * i) ≡ 0
+unfolding draftedOf settings.putOf
+not-stray d s from zero e i l u = absurd (omega arith)
+not-stray d s from (suc n) e i l u =
+    go (eqb i n) refl
+    (λ m. not-stray d s from n (or-false-left (draftedOf d s from n .stray) (not (settings.listed (300 + from + n)) && not (eqb (be16At s (7 + 2 * n)) 0)) e) i m u)
+  where
+    last : (a l z : Bool) → (a || not l && not z) ≡ false → l ≡ false → z ≡ true
+    last true l z e f = absurd (false≢true (sym e))
+    last false true z e f = absurd (false≢true (sym f))
+    last false false true e f = refl
+    last false false false e f = absurd (false≢true (sym e))
+
+    go : (t : Bool) → eqb i n ≡ t → (i < n → be16At s (7 + 2 * i) ≡ 0) → be16At s (7 + 2 * i) ≡ 0
+    go true f before =
+        let k : i ≡ n = eqb-true i n f in
+        let v : be16At s (7 + 2 * n) ≡ 0 = eqb-true (be16At s (7 + 2 * n)) 0 (last (draftedOf d s from n .stray) (settings.listed (300 + from + n)) (eqb (be16At s (7 + 2 * n)) 0) e (sym (ap (λ j. settings.listed (300 + from + j)) k) ∙ u)) in
+        ap (λ j. be16At s (7 + 2 * j)) k ∙ v
+    go false f before = before (omega (arith, eqb-false))
+
+taken : (d : Draft) → eqb (settings.numberOf (settings.verdictOf d)) 0 ≡ true → d .stray ≡ false
+unfolding settings.numberOf settings.verdictOf
+taken d = go (d .stray)
+  where
+    go : (a : Bool) → eqb (settings.numberOf (cond a OutOfRange (settings.judgedOf (d .drafted)))) 0 ≡ true → a ≡ false
+    go true e = absurd (false≢true e)
+    go false e = refl
+
+byte : (s : List ℕ) (i : ℕ) → All (λ b. b ≤ 255) s → getD s i 0 ≤ 255
+byte [] i p = omega arith
+byte (b ∷ s) zero p = p .0
+byte (b ∷ s) (suc i) p = byte s i (p .1)
+
+accepted-gives : (st : Settings) (s : List ℕ) (from n : ℕ) → All (λ b. b ≤ 255) s → eqb (writeNumber st s from n) 0 ≡ true → Gives (s, from, n)
+accepted-gives st s from n typed e =
+    record {
+      unlisted = λ at u c. unlisted at u (and-parts (leb (300 + from) at) (ltb at (300 + from + n)) c);
+      sixteen = λ at.
+          let i = 7 + 2 * (at - (300 + from)) in
+          let high = byte s i typed in
+          let low = byte s (i + 1) typed in
+          omega arith;
+    }
+  where
+    and-parts : (a b : Bool) → (a && b) ≡ true → (a ≡ true) × (b ≡ true)
+    and-parts true true e = (refl, refl)
+    and-parts true false e = absurd (false≢true e)
+    and-parts false b e = absurd (false≢true e)
+
+    unlisted : (at : ℕ) → settings.listed at ≡ false → (leb (300 + from) at ≡ true) × (ltb at (300 + from + n) ≡ true) → be16At s (7 + 2 * (at - (300 + from))) ≡ 0
+    unlisted at u (p, q) =
+        let l = leb-true (300 + from) at p in
+        let m = ltb-true at (300 + from + n) q in
+        let k : 300 + from + (at - (300 + from)) ≡ at = omega arith in
+        not-stray (settings.draftOf st) s from n (taken (draftedOf (settings.draftOf st) s from n) e) (at - (300 + from)) (omega arith) (ap settings.listed k ∙ u)
+
+-- so every accepted write of a history
+module _ (cells perKm : ℕ) where
+  asked : (st : Settings) (s : List ℕ) → All (λ b. b ≤ 255) s → (q : Request) → All Gives (row (requestDeed st s q) .writes)
+  unfolding requestDeed
+  asked st s typed (request.Refused refusal) = tt
+  asked st s typed request.ClearEvents = tt
+  asked st s typed request.ClearStatistics = tt
+  asked st s typed (request.Write from n) = go (eqb (writeNumber st s from n) 0) refl
+    where
+      go : (t : Bool) → eqb (writeNumber st s from n) 0 ≡ t → All Gives (row (cond t (wrote s from n) nothing) .writes)
+      go true e = (accepted-gives st s from n typed e, tt)
+      go false e = tt
+  asked st s typed (request.Read q) = go (marks q)
+    where
+      go : (t : Bool) → All Gives (row (cond t sent nothing) .writes)
+      go true = tt
+      go false = tt
+
+  called : (h : List Deed) (c : Call) → TypedCall c → All Gives (row (deedOf cells perKm h c) .writes)
+  unfolding deedOf
+  called h (tick taken r) typed = go (usableCount cells) (eqb (readings.numberOf (readings.judgedOf cells perKm (length taken) r)) 0)
+    where
+      go : (t u : Bool) → All Gives (row (cond t (cond u (took taken r) nothing) nothing) .writes)
+      go true true = tt
+      go true false = tt
+      go false u = tt
+  called h (frame s room) typed = go (usableCount cells) (ltb room 259)
+    where
+      go : (t u : Bool) → All Gives (row (cond t (cond u nothing (requestDeed (settingsAt h) s (requestOf s))) nothing) .writes)
+      go true true = tt
+      go true false = asked (settingsAt h) s typed (requestOf s)
+      go false u = tt
+  called h handover typed = go (usableCount cells)
+    where
+      go : (t : Bool) → All Gives (row (cond t handed nothing) .writes)
+      go true = tt
+      go false = tt
+
+  writes-give : (cs : List Call) → Typed cs → All Gives (each writing (since never (deedsOf cells perKm cs)))
+  unfolding deedsOf
+  writes-give [] typed = tt
+  writes-give (c ∷ cs) typed = all-append Gives (row (deedOf cells perKm (deedsOf cells perKm cs) c) .writes) (each writing (since never (deedsOf cells perKm cs))) (called (deedsOf cells perKm cs) c (typed .0)) (writes-give cs (typed .1))
+
+-- ---- what a register reads
+
+-- the newest that passes is one of them, and passes
+newest-has : {A : Type 0} (P : A → Type 0) (passes : A → Bool) (xs : List A) → All P xs → All (λ x. P x × (passes x ≡ true)) (newest passes xs)
+newest-has P passes [] p = tt
+newest-has P passes (x ∷ xs) p = go (passes x) refl (newest-has P passes xs (p .1))
+  where
+    go : (t : Bool) → passes x ≡ t → All (λ x. P x × (passes x ≡ true)) (newest passes xs) → All (λ x. P x × (passes x ≡ true)) (cond t (x ∷ []) (newest passes xs))
+    go true e older = ((p .0, e), tt)
+    go false e older = older
+
+module _ (h : List Deed) (all : All Gives (each writing (since never h))) where
+  writes : ℕ → List (List ℕ × ℕ × ℕ)
+  writes at = newest (covers at) (each writing (since never h))
+
+  -- an unlisted one 0
+  unlisted-given : (at : ℕ) → settings.listed at ≡ false → settings.registerOf settings.factory at ≡ 0 → 0 ≡ lastGiven at h
+  unfolding writes
+  unlisted-given at u z = go (writes at) (newest-has Gives (covers at) (each writing (since never h)) all)
+    where
+      go : (ws : List (List ℕ × ℕ × ℕ)) → All (λ w. Gives w × (covers at w ≡ true)) ws → 0 ≡ headOr (settings.registerOf settings.factory at) (map (given at) ws)
+      go [] p = sym z
+      go (w ∷ ws) p = sym (p .0 .0 .unlisted at u (p .0 .1))
+
+  -- 320 its sixteen bits
+  signed-given : headOr (settings.registerOf settings.factory 320) (map (λ w. bitsOf (fromBits (given 320 w))) (writes 320)) ≡ lastGiven 320 h
+  unfolding writes
+  signed-given = go (writes 320) (newest-has Gives (covers 320) (each writing (since never h)) all)
+    where
+      go : (ws : List (List ℕ × ℕ × ℕ)) → All (λ w. Gives w × (covers 320 w ≡ true)) ws
+          → headOr (settings.registerOf settings.factory 320) (map (λ w. bitsOf (fromBits (given 320 w))) ws) ≡ headOr (settings.registerOf settings.factory 320) (map (given 320) ws)
+      go [] p = refl
+      go (w ∷ ws) p = same-bits (given 320 w) (p .0 .0 .sixteen 320)
+
+  module _ (at : ℕ) where
+    -- the register of that number, or one of the others
+    case : (k x : ℕ) {rest goal : ℕ} → (at ≡ k → x ≡ goal) → (eqb at k ≡ false → rest ≡ goal) → cond (eqb at k) x rest ≡ goal
+    case k x {rest} {goal} here there = go (eqb at k) refl
+      where
+        go : (t : Bool) → eqb at k ≡ t → cond t x rest ≡ goal
+        go true e = here (eqb-true at k e)
+        go false e = there e
+
+    given-at : {k x : ℕ} → x ≡ lastGiven k h → at ≡ k → x ≡ lastGiven at h
+    given-at e k = e ∙ ap (λ n. lastGiven n h) (sym k)
+
+    reads : settings.registerOf (settingsAt h) at ≡ lastGiven at h
+    unfolding settings.registerOf settings.listed writes
+    reads =
+        let r = reads-back h in
+        case 301 _ (given-at (r .0)) (λ n₁.
+        case 303 _ (given-at (r .1)) (λ n₂.
+        case 308 _ (given-at (r .2)) (λ n₃.
+        case 315 _ (given-at (r .3)) (λ n₄.
+        case 316 _ (given-at (r .4)) (λ n₅.
+        case 317 _ (given-at (r .5)) (λ n₆.
+        case 318 _ (given-at (r .6)) (λ n₇.
+        case 319 _ (given-at (r .7)) (λ n₈.
+        case 320 _ (given-at (r .8 ∙ signed-given)) (λ n₉.
+        case 332 _ (given-at (r .9)) (λ n₁₀.
+        case 334 _ (given-at (r .10)) (λ n₁₁.
+        case 335 _ (given-at (r .11)) (λ n₁₂.
+        unlisted-given at
+        (rw (n₁, n₂, n₃, n₄, n₅, n₆, n₇, n₈, n₉, n₁₀, n₁₁, n₁₂) refl)
+        (rw (n₁, n₂, n₃, n₄, n₅, n₆, n₇, n₈, n₉, n₁₀, n₁₁, n₁₂) refl)))))))))))))
+
+-- ---- of the board after any calls
+
+-- rows of equal numbers
+words-same : (bytes : ℕ → List ℕ) (f g : ℕ → ℕ) (at n : ℕ) → ((i : ℕ) → i < n → f (at + i) ≡ g (at + i)) → words bytes f at n ≡ words bytes g at n
+unfolding words
+words-same bytes f g at zero e = refl
+words-same bytes f g at (suc n) e = rw (words-same bytes f g at n (λ i l. e i (omega arith)), e n (omega arith))
+
+module _ (cells perKm : ℕ) (cs : List Call) (typed : Typed cs) where
+  abbrev after : Board
+  after = afterIn board (startBoard cells perKm) cs
+
+  abbrev made : List Deed
+  made = deeds cells perKm cs
+
+  holds-after : (P : Board → Type 0) → P (boardAt cells perKm made) → P after
+  holds-after P = subst⁻¹ P (account cells perKm cs)
+
+  all-made : All Gives (each writing (since never made))
+  all-made = writes-give cells perKm (reverse cs) (all-reversed TypedCall cs [] typed tt)
+
+  -- a register by its number
+  pub register-reads : (at : ℕ) → 300 ≤ at → at ≤ 399 → shownAt after at ≡ Register (lastGiven at made)
+  unfolding shownAt boardAt
+  register-reads at l m =
+      holds-after (λ b. shownAt b at ≡ Register (lastGiven at made))
+      (rw (lt-leb at 55 (omega arith), le-leb 100 at (omega arith), lt-leb at 117 (omega arith), le-leb 300 at (omega arith), le-leb at 399 (omega arith))
+      (ap Register (reads made all-made at)))
+
+  -- the reply of 0x03, before its CRC: the registers of a block
+  pub block-reads : (at n : ℕ) → 300 ≤ at → at + n ≤ 400 → bodyOf after (Registers at n) ≡ 0xAA ∷ 0x03 ∷ 2 * n ∷ words be16 (λ k. lastGiven k made) at n
+  unfolding bodyOf valueAt
+  block-reads at n l m =
+      ap (λ (bytes : List ℕ). 0xAA ∷ 0x03 ∷ 2 * n ∷ bytes)
+      (words-same be16 (valueAt after) (λ k. lastGiven k made) at n (λ i k. ap valueOf (register-reads (at + i) (omega arith) (omega arith))))
+
+  -- the reply of 0x1D, current
+  pub settings-read : (n : ℕ) → bodyOf after (SettingsOf Current n) ≡ 0xAA ∷ 0x1D ∷ 2 * n ∷ words le16 (λ k. lastGiven k made) 300 n
+  unfolding bodyOf settings.ofKind boardAt
+  settings-read n =
+      holds-after (λ b. bodyOf b (SettingsOf Current n) ≡ 0xAA ∷ 0x1D ∷ 2 * n ∷ words le16 (λ k. lastGiven k made) 300 n)
+      (ap (λ (bytes : List ℕ). 0xAA ∷ 0x1D ∷ 2 * n ∷ bytes)
+      (words-same le16 (settings.registerOf (settingsAt made)) (λ k. lastGiven k made) 300 n (λ i k. reads made all-made (300 + i))))
+
+  -- 100 and 101, the distance
+  pub distance-reads : perKm ≤ 65535 → (shownAt after 100 ≡ Register (lowHalf (distanceAt perKm made))) × (shownAt after 101 ≡ Register (highHalf (distanceAt perKm made)))
+  unfolding shownAt statistics.registerOf boardAt
+  distance-reads held =
+      let e = distance-shown perKm made held in (
+        holds-after (λ b. shownAt b 100 ≡ Register (lowHalf (distanceAt perKm made))) (ap (λ n. Register (lowHalf n)) e),
+        holds-after (λ b. shownAt b 101 ≡ Register (highHalf (distanceAt perKm made))) (ap (λ n. Register (highHalf n)) e),
+      )
