@@ -239,11 +239,13 @@ static void add_crc(struct request *request)
     add(request, crc >> 8);
 }
 
+/* The ends of the ranges, the numbers next to them, and some between. */
+static const int ends[] = {0, 16, 32, 36, 54, 55, 56, 99, 100, 113, 116, 117, 118, 299, 300, 315, 399, 400, 65535};
+
 /* Whole ranges mostly: they show all the state that there is. Else blocks at and across the ends of the ranges. */
 static void ask_registers(struct script *script, struct request *request)
 {
     static const int whole[][2] = {{0, 56}, {0, 56}, {100, 18}, {100, 18}, {100, 18}, {300, 100}};
-    static const int ends[] = {0, 16, 32, 36, 54, 55, 56, 99, 100, 113, 116, 117, 118, 299, 300, 315, 399, 400, 65535};
     static const int lengths[] = {0, 1, 1, 2, 2, 18, 19, 56, 57, 100, 101, 127, 128, 255};
     const int *block = PICK(script, whole);
     int address = block[0], RL = block[1];
@@ -457,6 +459,11 @@ static void say_crc(struct script *script)
         say(script, " %02X", between(script, 0, 255));
 }
 
+static void say_register(struct script *script)
+{
+    say(script, "register %d", one_in(script, 2) ? between(script, 0, 420) : PICK(script, ends));
+}
+
 /* Lines that are no call, or that only just are one. */
 static const char *const junk[] = {
     "hello", "?", "tick", "start", "start 8", "start 8 2000 1", "start -1 2000", "start 256 2000", "start 8 65536",
@@ -465,7 +472,8 @@ static const char *const junk[] = {
     " # no comment", "frame", "frame 601 AA 18 7F 1A", "frame -0 AA 18 7F 1A", "frame 259 A", "frame 259 AAA 18 7F 1A",
     "frame 259 GG", "frame 259 A/", "frame 259 :A", "frame 259 @A", "frame 259 A`", "frame 259 aG",
     "frame 259 AA 18 7F 1A \x01", "frame AA 18 7F 1A", "frame 0x259 AA 18 7F 1A", "frame 0259 aa 18 7f 1A",
-    "crc", "crc 1", "crc 001", "crc ZZ", "crc aB Ba", "tick 0 250 250 250 0 0",
+    "crc", "crc 1", "crc 001", "crc ZZ", "crc aB Ba", "register", "register 65536", "register -0", "register 50 50",
+    "register 0050", "tick 0 250 250 250 0 0",
     "tick 2147483648 250 250 250 0 0 0 1 2 3 4", "tick -2147483649 250 250 250 0 0 0 1 2 3 4",
     "tick -21474836480 250 250 250 0 0 0 1 2 3 4", "tick 100000000000000000000 250 250 250 0 0 0 1 2 3 4",
     "tick 0 32768 250 250 0 0 0 1 2 3 4", "tick 0 250 -32769 250 0 0 0 1 2 3 4", "tick 0 250 250 250 65536 0 0 1 2 3 4",
@@ -505,10 +513,12 @@ static void say_junk(struct script *script)
 /* "Number 21 gives back no usable board: any later call on it, handover included, answers 21" */
 static void say_call_without_board(struct script *script)
 {
-    const int kind = between(script, 0, 3);
+    const int kind = between(script, 0, 4);
     script->unstarted--;
     if (kind == 0)
         say(script, "handover");
+    else if (kind == 4)
+        say_register(script);
     else if (kind == 1)
         say_tick(script);
     else if (kind == 2 && script->unstarted < 0)
@@ -539,6 +549,8 @@ static void say_call(struct script *script)
         say_crc(script);
     } else if (kind < 250) {
         say_junk(script);
+    } else if (kind < 400) {
+        say_register(script);
     } else if (kind < (script->quiet > 0 ? 1200 : 3000)) {
         say_frame(script);
     } else {
