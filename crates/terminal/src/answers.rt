@@ -2,6 +2,7 @@
 // to before each answer.
 use crate::calls::Call;
 use crate::calls::least;
+use board::Shown;
 use text::LF;
 use text::SPACE;
 use text::put;
@@ -11,13 +12,14 @@ use text::put_decimal;
 use text::put_word;
 use text::without_zeros;
 
-// What stands after a call: document 01's number, the switches, and registers 51 and 52.
+// What stands after a call: document 01's number, the switches, registers 51 and 52, and the register that it asks for.
 pub(crate) struct State {
     pub number: u8,
     pub charge: bool,
     pub discharge: bool,
     pub need: u16,
     pub real: u16,
+    pub shown: Shown,
 }
 
 // The answer line of a call, after those that wait already.
@@ -30,7 +32,7 @@ pub(crate) fn put_answer(
 ) -> usize {
     match call {
         Call::Nothing => said,
-        Call::Wrong => put_wrong(out, said),
+        Call::Wrong => put_mark(out, said, b'?'),
         Call::Start {
             cells: _,
             per_km: _,
@@ -45,6 +47,7 @@ pub(crate) fn put_answer(
         }
         Call::Handover => put_told(out, said, state),
         Call::Crc(crc) => put_crc(out, said, crc),
+        Call::Register(_) => put_shown(out, said, state),
     }
 }
 
@@ -63,8 +66,8 @@ fn put_end(out: &mut [u8], at: usize) -> usize {
     put(out, at, LF)
 }
 
-fn put_wrong(out: &mut [u8], at: usize) -> usize {
-    let next = put(out, at, b'?');
+fn put_mark(out: &mut [u8], at: usize, mark: u8) -> usize {
+    let next = put(out, at, mark);
     put_end(out, next)
 }
 
@@ -89,6 +92,20 @@ fn put_crc(out: &mut [u8], at: usize, crc: u16) -> usize {
     let mut next = put_byte(out, at, (crc % 256) as u8);
     next = put(out, next, SPACE);
     next = put_byte(out, next, (crc / 256) as u8);
+    put_end(out, next)
+}
+
+// VALUE, or - where there is none.
+fn put_shown(out: &mut [u8], at: usize, state: State) -> usize {
+    let shown = state.shown;
+    match shown {
+        Shown::Register(value) => put_value(out, at, value),
+        Shown::Nothing => put_mark(out, at, b'-'),
+    }
+}
+
+fn put_value(out: &mut [u8], at: usize, value: u16) -> usize {
+    let next = put_word(out, at, value);
     put_end(out, next)
 }
 

@@ -29,6 +29,7 @@ pub(crate) enum Call {
     Frame { room: usize, count: usize },
     Handover,
     Crc(u16),
+    Register(u16),
 }
 
 // What a line, without its end, asks for. A comment and a line of spaces alone ask for nothing, however long.
@@ -66,6 +67,10 @@ fn named_call(line: &[u8], at: usize, request: &mut [u8], voltages: &mut [u16]) 
     let crc = after_word(line, at, b"crc");
     if 0 < crc {
         return crc_call(line, crc, request);
+    }
+    let register = after_word(line, at, b"register");
+    if 0 < register {
+        return register_call(line, register);
     }
     Call::Wrong
 }
@@ -141,6 +146,14 @@ fn crc_call(line: &[u8], from: usize, request: &mut [u8]) -> Call {
     };
     let length = least(count, request.len());
     Call::Crc(crc::crc(&request[0..length]))
+}
+
+fn register_call(line: &[u8], from: usize) -> Call {
+    let at = number(line, from, 65535);
+    if at.good & is_last(line, at.next) {
+        return Call::Register(at.value as u16);
+    }
+    Call::Wrong
 }
 
 // The temperature that `signed_number` told as 32768 more.

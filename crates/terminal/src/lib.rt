@@ -14,6 +14,7 @@ use crate::calls::call_of;
 use crate::calls::least;
 use board::Answer;
 use board::Board;
+use board::Shown;
 use text::LF;
 use text::appended;
 use text::line_end;
@@ -114,7 +115,7 @@ fn block_answered(
         end = line_end(block, from);
         held = 0;
         answer = made(answer, call, request, voltages, reply);
-        said = put_answer(out, said, call, state_of(answer), reply);
+        said = put_answer(out, said, call, state_of(answer, call), reply);
         said = with_room(out, said);
     }
     written(out, said);
@@ -179,7 +180,7 @@ fn last_answered(
     let whole = least(held, line.len());
     let call = call_of(&line[0..whole], request, voltages);
     let answer = made(before, call, request, voltages, reply);
-    let said = put_answer(out, 0, call, state_of(answer), reply);
+    let said = put_answer(out, 0, call, state_of(answer, call), reply);
     written(out, said);
 }
 
@@ -200,6 +201,7 @@ fn made(before: Answer, call: Call, request: &[u8], voltages: &[u16], reply: &mu
         }
         Call::Handover => before.board.handover(),
         Call::Crc(_) => before,
+        Call::Register(_) => before,
     }
 }
 
@@ -217,13 +219,22 @@ fn fill(reply: &mut [u8]) {
 }
 
 // What is shown after a call.
-fn state_of(answer: Answer) -> State {
+fn state_of(answer: Answer, call: Call) -> State {
     State {
         number: answer.number,
         charge: answer.board.charge_switch(),
         discharge: answer.board.discharge_switch(),
         need: answer.board.decision_bits(),
         real: answer.board.balancing_bits(),
+        shown: shown_of(answer, call),
+    }
+}
+
+// The register that a call asks for.
+fn shown_of(answer: Answer, call: Call) -> Shown {
+    match call {
+        Call::Register(at) => answer.board.register(at),
+        _ => Shown::Nothing,
     }
 }
 
