@@ -4,12 +4,11 @@ ghost use mathlib.Core.Path.{_≡_};
 ghost use Prim.Native.Nat.{_+_, _≤_};
 ghost use Rattle.wire.specs.Wire.{word16, words, sealed, ackOf, Wrote, Filled};
 ghost use Rattle.requests.specs.Requests.{refusalNumber, highFirst};
-ghost use Rattle.board.specs.Frames.{clearedEvents, clearedStatistics, written, markedBy, changedBy, valueAt, tooLong, queryReply, refusalReply, writeNumber, writeReply, requestNumber, requestReply};
+ghost use Rattle.board.specs.Frames.{clearedEvents, clearedStatistics, written, markedBy, changedBy, tooLong, queryReply, refusalReply, writeNumber, writeReply, requestNumber, requestReply};
 ghost use Rattle.board.specs.Promises.{Frames};
 ghost use Rattle.board.specs.Replies.{wordOf, replyOf, Replied};
 use crate::Answer;
 use crate::Board;
-use crate::Shown;
 use events::Events;
 use requests::Query;
 use requests::Refusal;
@@ -155,19 +154,6 @@ impl Board {
                 .settings
                 .of_kind(kind)
                 .register(300 + i),
-        }
-    }
-
-    // A register that a block names; outside the ranges there is none to show.
-    fn value(self, at: u32) -> u16
-        ensures { λ r. ⌜ r ≡ valueAt self at ⌝ }
-    {
-        if 65535 < at {
-            return 0;
-        }
-        match self.register(at as u16) {
-            Shown::Register(value) => value,
-            Shown::Nothing => 0,
         }
     }
 }

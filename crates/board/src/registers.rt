@@ -1,4 +1,8 @@
 // What the board shows: registers by number, switches, bits, events and lifetime.
+ghost use mathlib.Core.Bool.{_||_};
+ghost use mathlib.Core.Path.{_≡_};
+ghost use Rattle.board.specs.Frames.{valueAt};
+ghost use Rattle.board.specs.Registers.{inLive, inStatistics, inSettings};
 ghost use Rattle.board.specs.Promises.{ShowsRegister, ShowsCharge, ShowsDischarge, ShowsDecision, ShowsBalancing, ShowsLifetime, CountsKept, ShowsKept, CountsNew, ShowsNew};
 use crate::Board;
 use crate::Shown;
@@ -8,18 +12,28 @@ impl Board {
     pub fn register(self, at: u16) -> Shown
         ensures { λ r. ⌜ ShowsRegister self at r ⌝ }
     {
+        if is_shown(at) {
+            return Shown::Register(self.value(at as u32));
+        }
+        Shown::Nothing
+    }
+
+    // A register's value, and 0 where there is none. Words of replies come from here: made of `register` each would copy the board.
+    pub(crate) fn value(self, at: u32) -> u16
+        ensures { λ r. ⌜ r ≡ valueAt self at ⌝ }
+    {
         let lifetime = self.pack.clock.seconds;
         let per_km = self.pack.per_km;
         if at <= 55 {
-            return Shown::Register(self.hire.register(lifetime, per_km, at));
+            return self.hire.register(lifetime, per_km, at as u16);
         }
         if (100 <= at) & (at <= 117) {
-            return Shown::Register(self.hire.statistics.register(per_km, at));
+            return self.hire.statistics.register(per_km, at as u16);
         }
         if (300 <= at) & (at <= 399) {
-            return Shown::Register(self.pack.settings.register(at));
+            return self.pack.settings.register(at as u16);
         }
-        Shown::Nothing
+        0
     }
 
     pub fn charge_switch(self) -> bool
@@ -80,4 +94,11 @@ impl Board {
     {
         self.hire.events.new_at(n)
     }
+}
+
+// Does the number stand in one of the three ranges?
+fn is_shown(at: u16) -> bool
+    ensures { λ r. ⌜ r ≡ (inLive at || (inStatistics at || inSettings at)) ⌝ }
+{
+    (at <= 55) | (((100 <= at) & (at <= 117)) | ((300 <= at) & (at <= 399)))
 }

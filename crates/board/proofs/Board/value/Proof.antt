@@ -1,17 +1,23 @@
--- By the ranges, and by what the call gives in them. Assumes nothing.
+-- By cases on the three ranges, each register what its own call gives. Assumes nothing.
+use mathlib.Core.Bool.{Bool, true, false, _&&_, false≢true}
+use mathlib.Core.Path.{_≡_}
+use Prim.Native.Nat.{ℕ, _≤_}
 use native.Mathlib.Omega.{arith}
-use borrow.Author.Tests.{le-leb, lt-leb}
+use lib.Dec.{leb}
+use borrow.Author.Tests.{leb-true, le-leb, lt-leb}
 use Rattle.board.specs.Registers.{shownAt}
 use Rattle.board.specs.Frames.{valueAt}
 use borrow.Author.Needs.{needs}
 use Rattle.board.proofs.Board.value.Statement.{statement}
 use Rattle.board.proofs.Board.value.Tie as tie
 
-returns : tie.Need-returns
-unfolding valueAt shownAt
-returns c =
-    let at = c .before .args .at in
-    rw (lt-leb at 55 (omega arith), le-leb 100 at (omega arith), lt-leb at 117 (omega arith), le-leb 300 at (omega arith), lt-leb at 399 (omega arith))
+-- a number in a range is not above its end
+below : (low at high : ℕ) → (leb low at && leb at high) ≡ true → at ≤ high
+below low at high inside = go (leb low at) inside
+  where
+    go : (t : Bool) → (t && leb at high) ≡ true → at ≤ high
+    go true e = leb-true at high e
+    go false e = absurd (false≢true e)
 
 cast-register : tie.Need-cast-register
 cast-register c = search needs
@@ -19,28 +25,45 @@ cast-register c = search needs
 register-requires : tie.Need-register-requires
 register-requires c κs = search needs
 
-enum-known-value : tie.Need-enum-known-value
-enum-known-value c = search needs
+returns : tie.Need-returns
+unfolding valueAt shownAt
+returns c = rw (le-leb _ _ (c .before .if1 .taken), c .register .ensures)
 
-enum-told : tie.Need-enum-told
-enum-told c = search needs
+cast-register-2 : tie.Need-cast-register-2
+cast-register-2 c = omega (arith, below 100 (c .before .before .args .at) 117 (c .if2 .taken))
+
+register-requires-2 : tie.Need-register-requires-2
+register-requires-2 c κs = search needs
 
 returns-2 : tie.Need-returns-2
-unfolding valueAt
-returns-2 c = rw (← c .before .before .before .register .ensures, c .before .value .given .1)
+unfolding valueAt shownAt
+returns-2 c = rw (lt-leb _ _ (c .before .before .if1 .left), c .before .if2 .taken, c .register2 .ensures)
+
+cast-register-3 : tie.Need-cast-register-3
+cast-register-3 c = omega (arith, below 300 (c .before .before .before .args .at) 399 (c .if3 .taken))
+
+register-requires-3 : tie.Need-register-requires-3
+register-requires-3 c κs = search needs
 
 returns-3 : tie.Need-returns-3
-unfolding valueAt
-returns-3 c = rw (← c .before .before .register .ensures, c .enum-told .given .1)
+unfolding valueAt shownAt
+returns-3 c = rw (lt-leb _ _ (c .before .before .before .if1 .left), c .before .before .if2 .left, c .before .if3 .taken, c .register3 .ensures)
+
+returns-4 : tie.Need-returns-4
+unfolding valueAt shownAt
+returns-4 c = rw (lt-leb _ _ (c .before .before .if1 .left), c .before .if2 .left, c .if3 .left)
 
 pub value-spec : {M : Type 1} → statement M
 value-spec =
     tie.close
     (tie.spec
-    returns
     cast-register
     register-requires
-    enum-known-value
-    enum-told
+    returns
+    cast-register-2
+    register-requires-2
     returns-2
-    returns-3)
+    cast-register-3
+    register-requires-3
+    returns-3
+    returns-4)
