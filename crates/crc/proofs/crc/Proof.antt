@@ -1,17 +1,19 @@
--- The sum gathers the bytes from the left. Assumes nothing.
+-- The sum gathers the bytes from the left; the table computes to the list that its rule asks for. Assumes nothing.
+use mathlib.Core.Path.{refl}
 use Prim.Native.Nat.{_-_}
 use lib.ListN.{length}
 use Rattle.laws.proofs.Folds.{Gathered, begun, next, done}
-use Rattle.crc.specs.Crc.{byteIn, crcOf}
+use Rattle.crc.specs.Crc.{shiftedOut, times, byteIn, crcOf}
+use Rattle.crc.proofs.Listed.{by-list}
 use borrow.Author.Needs.{needs}
 use Rattle.crc.proofs.crc.Statement.{statement}
 use Rattle.crc.proofs.crc.Tie as tie
 
 abbrev Inv-loop : tie.InvT-loop
-Inv-loop bytes sum₀ i₀ sum i = Gathered byteIn 0xFFFF sum bytes i
+Inv-loop bytes table sum₀ i₀ sum i = Gathered byteIn 0xFFFF sum bytes i
 
 abbrev μ-loop : tie.MeasureT-loop
-μ-loop bytes sum₀ i₀ sum i = length bytes - i
+μ-loop bytes table sum₀ i₀ sum i = length bytes - i
 
 loop-holds : tie.Need-loop-holds Inv-loop μ-loop
 loop-holds c = begun
@@ -20,7 +22,8 @@ shared-slice-read-byte-in : tie.Need-shared-slice-read-byte-in Inv-loop μ-loop
 shared-slice-read-byte-in c = search needs
 
 byte-in-requires : tie.Need-byte-in-requires Inv-loop μ-loop
-byte-in-requires c κs = search needs
+unfolding times shiftedOut
+byte-in-requires c κs = by-list refl
 
 add-i : tie.Need-add-i Inv-loop μ-loop
 add-i c = search needs
@@ -29,7 +32,7 @@ loop-less : tie.Need-loop-less Inv-loop μ-loop
 loop-less c = search needs
 
 loop-again : tie.Need-loop-again Inv-loop μ-loop
-loop-again c = next (c .before .before .before .loop .inv) (search needs) (c .byte-in .ensures)
+loop-again c = next (c .before .before .before .before .loop .inv) (search needs) (c .byte-in .ensures)
 
 returns : tie.Need-returns Inv-loop μ-loop
 unfolding crcOf
