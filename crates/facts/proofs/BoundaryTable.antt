@@ -20,8 +20,7 @@ use Rattle.board.specs.Frames.{frameBoard}
 use Rattle.board.specs.Calls.{tick}
 use Rattle.board.specs.Behaviour.{board, afterIn}
 use Rattle.board.proofs.Opened.{opened}
-use Rattle.facts.proofs.Ticks as facts
-use Rattle.facts.proofs.Ticks.{fresh, after, latched, kept, cells, flow, ridden, since, since-again}
+use Rattle.facts.proofs.Ticks.{fresh, after, latched, kept, still, drawn, cells, flow, ridden, since, since-again}
 use Rattle.facts.proofs.Frames.{Gets}
 
 -- a board of 4 cells with 2000 pulses per km after n ticks: level cells, no current, those pulses and external temperatures
@@ -107,7 +106,7 @@ pub record Table : Type 0 where
       × (shownAt (after fresh (cells 40000 40151 ∷ [])) 51 ≡ Register 2)
 
 pub table : Table
-unfolding opened toBits div ofInt isNan
+unfolding opened fresh after latched kept still drawn cells flow ridden since since-again toBits div ofInt isNan
 table =
     record {
       P1 = (refl, refl);
@@ -115,12 +114,12 @@ table =
       P3 = ((refl, refl), (refl, refl));
       P4 = (refl, refl);
       P5 = (refl, refl);
-      P6 = facts.P6;
-      P7 = facts.P7;
-      P8 = facts.P8;
+      P6 = (refl, refl, refl, refl, refl);
+      P7 = (refl, refl, refl);
+      P8 = (refl, refl, refl, refl, refl, refl, refl, refl, refl);
       P9 = (refl, refl, refl, refl);
       P10 = (refl, refl, refl);
-      P11 = facts.P11;
+      P11 = (refl, refl, refl, refl);
       P12 = (refl, refl, (refl, refl), refl, (refl, refl), refl);
-      P13 = facts.P13;
+      P13 = (refl, refl);
     }

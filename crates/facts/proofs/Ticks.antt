@@ -1,5 +1,5 @@
--- Boards from the start through ticks and a handover, computed: P6, P7, P8, P11 and P13 of document 01, which events are
--- recorded, in which order, and how many are kept, what is counted, and what a handover clears and keeps. Assumes nothing.
+-- Boards from the start through ticks and a handover, computed: which events are recorded, in which order, and how many are kept, what is
+-- counted, and what a handover clears and keeps. Assumes nothing.
 use mathlib.Core.Path.{_≡_, refl}
 use mathlib.Core.Bool.{Bool, true, false}
 use mathlib.Core.List.{List, [], _∷_, _++_, map}
@@ -35,44 +35,44 @@ abbrev pub Moment : Type 0
 Moment = List ℕ × Readings
 
 -- current, internal temperature, both external ones, pulses, charger
-pub reading : ℤ → ℤ → ℤ → ℕ → Bool → Readings
+unfoldable pub reading : ℤ → ℤ → ℤ → ℕ → Bool → Readings
 reading current internal external pulses charger =
     record { current = current; internal = internal; external1 = external; external2 = external; pulses = pulses; charger = charger; ignition = false }
 
 -- level cells at 20 °C, with that current, those pulses and that charger
-pub calm : ℤ → ℕ → Bool → Moment
+unfoldable pub calm : ℤ → ℕ → Bool → Moment
 unfolding reading
 calm current pulses charger = (replicate 4 37000, reading current (pos 200) (pos 200) pulses charger)
 
 -- a quiet tick, and ones that differ from it in the current, in the pulses, in the charger
-pub still : Moment
+unfoldable pub still : Moment
 unfolding calm
 still = calm (pos 0) 0 false
 
-pub flow : ℤ → Moment
+unfoldable pub flow : ℤ → Moment
 unfolding calm
 flow current = calm current 0 false
 
-pub ridden : ℕ → Moment
+unfoldable pub ridden : ℕ → Moment
 unfolding calm
 ridden pulses = calm (pos 0) pulses false
 
-pub plugged : Bool → Moment
+unfoldable pub plugged : Bool → Moment
 unfolding calm
 plugged charger = calm (pos 0) 0 charger
 
 -- one that differs from it in the cells: cell 2 at v, the others at low
-pub cells : ℕ → ℕ → Moment
+unfoldable pub cells : ℕ → ℕ → Moment
 unfolding still
 cells low v = (low ∷ v ∷ low ∷ low ∷ [], still .1)
 
 -- DOC holds
-pub drawn : Moment
+unfoldable pub drawn : Moment
 unfolding flow
 drawn = flow (negsuc 59999)
 
 -- UV, OV, OT and LT hold, each just at its limit
-pub storm : ℤ → Bool → Moment
+unfoldable pub storm : ℤ → Bool → Moment
 unfolding reading
 storm current charger = (29000 ∷ 42000 ∷ 37000 ∷ 37000 ∷ [], reading current (pos 600) (pos 0) 0 charger)
 
@@ -84,25 +84,25 @@ alternately (suc n) x y = x ∷ alternately n y x
 -- ---- boards
 
 -- 4 cells, 2000 pulses per km
-pub fresh : Board
+unfoldable pub fresh : Board
 unfolding startBoard newPack newHire noEvents statistics.clearedAt
 fresh = startOf 4 2000 .board
 
 -- the board after ticks; `unfolding after` opens all that a tick goes through
-pub after : Board → List Moment → Board
+unfoldable pub after : Board → List Moment → Board
 unfolding tickOf tickNumber steps laterOf statusFor judgedOf numberOf guardOf holdsOf waitsOf recoversOf latchedOf is eventOf latchEvent recoveryEvent faulty chargeOff dischargeOff addOf shifted packed statistics.riddenOf statistics.countedOf statistics.countsOf
 after b [] = b
 after b (m ∷ ms) = after (tickOf b (m .0) (m .1) .board) ms
 
-pub latched : Board → Conditions
+unfoldable pub latched : Board → Conditions
 latched b = b .pack .guard .latched
 
 -- the events, oldest first, and their numbers
-pub kept : Board → List Event
+unfoldable pub kept : Board → List Event
 unfolding latest
 kept b = keptOf (b .hire .events)
 
-pub recorded : Board → List ℕ
+unfoldable pub recorded : Board → List ℕ
 unfolding kept
 recorded b = map eventNumber (kept b)
 
@@ -118,62 +118,14 @@ pub accepted :
 unfolding fresh after cells drawn ridden plugged storm
 accepted = refl
 
--- P6 r315 4200: 41,999 does not latch, 42,000 does; latched, 41,500 stays, 41,499 recovers
-pub P6 :
-    (shownAt fresh 315 ≡ Register 4200)
-    × (latched (after fresh (cells 40000 41999 ∷ [])) .ov ≡ false)
-    × (latched (after fresh (cells 40000 42000 ∷ [])) .ov ≡ true)
-    × (latched (after fresh (cells 40000 42000 ∷ cells 40000 41500 ∷ [])) .ov ≡ true)
-    × (latched (after fresh (cells 40000 42000 ∷ cells 40000 41499 ∷ [])) .ov ≡ false)
-unfolding shownAt settings.registerOf fresh latched after cells
-P6 = (refl, refl, refl, refl, refl)
-
--- P7 r317 60: -59,999 no, -60,000 yes
-pub P7 :
-    (shownAt fresh 317 ≡ Register 60)
-    × (latched (after fresh (flow (negsuc 59998) ∷ [])) .doc ≡ false)
-    × (latched (after fresh (flow (negsuc 59999) ∷ [])) .doc ≡ true)
-unfolding shownAt settings.registerOf fresh latched after flow
-P7 = (refl, refl, refl)
-
 -- n ticks after DOC last held: at tick 1, or at tick 21, and before that at tick 1
-pub since : ℕ → Board
+unfoldable pub since : ℕ → Board
 unfolding after fresh drawn still
 since n = after fresh (drawn ∷ replicate n still)
 
-pub since-again : ℕ → Board
+unfoldable pub since-again : ℕ → Board
 unfolding after fresh drawn still
 since-again n = after fresh (drawn ∷ replicate 19 still ++ drawn ∷ replicate n still)
-
--- P8 r332 5, last held at tick t: recovers at t+50. The event is recorded then
-pub P8 :
-    (shownAt fresh 332 ≡ Register 5)
-    × (latched (since 49) .doc ≡ true)
-    × (kept (since 49) ≡ eventAt 0 0x05 ∷ [])
-    × (latched (since 50) .doc ≡ false)
-    × (kept (since 50) ≡ eventAt 0 0x05 ∷ eventAt 5 0x77 ∷ [])
-    × (latched (since-again 49) .doc ≡ true)
-    × (kept (since-again 49) ≡ eventAt 0 0x05 ∷ [])
-    × (latched (since-again 50) .doc ≡ false)
-    × (kept (since-again 50) ≡ eventAt 0 0x05 ∷ eventAt 7 0x77 ∷ [])
-unfolding shownAt settings.registerOf fresh latched kept since since-again
-P8 = (refl, refl, refl, refl, refl, refl, refl, refl, refl)
-
--- P11 2000 per km: 39 pulses give 1, 40 give 2; at one tick, and one by one
-pub P11 :
-    (shownAt (after fresh (ridden 39 ∷ [])) 100 ≡ Register 1)
-    × (shownAt (after fresh (ridden 40 ∷ [])) 100 ≡ Register 2)
-    × (shownAt (after fresh (replicate 39 (ridden 1))) 100 ≡ Register 1)
-    × (shownAt (after fresh (replicate 40 (ridden 1))) 100 ≡ Register 2)
-unfolding shownAt statistics.registerOf statistics.distanceOf fresh after ridden
-P11 = (refl, refl, refl, refl)
-
--- P13 factory, lowest 40,000: 40,150 no, 40,151 balances
-pub P13 :
-    (shownAt (after fresh (cells 40000 40150 ∷ [])) 51 ≡ Register 0)
-    × (shownAt (after fresh (cells 40000 40151 ∷ [])) 51 ≡ Register 2)
-unfolding shownAt liveRegister fresh after cells
-P13 = (refl, refl)
 
 -- charger event 0x64 or 0x65 when presence differs from the tick before (absent before the first)
 pub charger-events :
