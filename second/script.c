@@ -115,6 +115,13 @@ static void make_quiet(struct script *script, struct tick *tick)
     tick->pulses = script->board.pulses_per_km == 0 || one_in(script, 3) ? 0 : between(script, 0, 20);
 }
 
+/* "rounding to the nearest mV, a half going up": every cell at a half, one tenth below or one above it. */
+static void press_rounding(struct script *script, struct tick *tick)
+{
+    for (int at = 0; at < tick->cells; at++)
+        tick->cell[at] = hold(near(script, tick->cell[at] / 10 * 10 + 5), 0, 65535);
+}
+
 /* "cell > 10*r303 and cell - lowest > 10*r308" */
 static void press_balancing(struct script *script, struct tick *tick)
 {
@@ -196,6 +203,8 @@ static void say_tick(struct script *script)
         script->quiet--;
     } else {
         if (one_in(script, 3))
+            press_rounding(script, &tick);
+        if (one_in(script, 3))
             press_cells(script, &tick);
         if (one_in(script, 6))
             press_current(script, &tick);
@@ -240,7 +249,8 @@ static void add_crc(struct request *request)
 }
 
 /* The ends of the ranges, the numbers next to them, and some between. */
-static const int ends[] = {0, 16, 32, 36, 54, 55, 56, 99, 100, 113, 116, 117, 118, 299, 300, 315, 399, 400, 65535};
+static const int ends[] = {0, 16, 32, 36, 40, 41, 54, 55, 56, 99, 100, 113, 116, 117, 118,
+                           299, 300, 315, 399, 400, 65535};
 
 /* Whole ranges mostly: they show all the state that there is. Else blocks at and across the ends of the ranges. */
 static void ask_registers(struct script *script, struct request *request)

@@ -19,7 +19,7 @@ use Rattle.requests.specs.declared.Request.{Request}
 use Rattle.requests.specs.declared.Request.the-variants as request
 use Rattle.wire.specs.Wire.{le16, be16, le32, word16, words, sealed, nackOf, ackOf, Wrote, Filled, Lengthened, lengthByte}
 use Rattle.requests.specs.Requests.{refusalNumber, commandOf, hasLength, highFirst, wordCount}
-use Rattle.board.specs.Frames.{valueAt, bodyOf, payloadOf, tooLong, writeNumber, refusalReply, writeReply, queryReply, requestNumber, requestReply}
+use Rattle.board.specs.Frames.{valueAt, bodyBy, bodyOf, payloadOf, tooLong, writeNumber, refusalReply, writeReply, queryReply, requestNumber, requestReply}
 use Rattle.board.specs.Numbers.{replyBytes}
 use Rattle.board.specs.Replies.{countOf, wordOf, replyOf}
 use Rattle.pairs.specs.Pairs.{halfAt}
@@ -55,7 +55,7 @@ events f n =
 -- ---- what is sent
 
 pub as-sent : (b : Board) (q : Query) → replyOf b q (countOf b q) ≡ bodyOf b q
-unfolding replyOf bodyOf wordCount hasLength highFirst wordOf commandOf words
+unfolding replyOf bodyBy wordCount hasLength highFirst wordOf commandOf words
 as-sent b (Registers at n) = ap (λ (l : List ℕ). 0xAA ∷ 0x03 ∷ 2 * n ∷ l) (shifted be16 (valueAt b) at n)
 as-sent b (Live command at n) = ap (λ (l : List ℕ). 0xAA ∷ command ∷ l) (shifted le16 (valueAt b) at n)
 as-sent b NewEvents = ap (λ (l : List ℕ). 0xAA ∷ 0x11 ∷ l) (events _ (newCount (b .hire .events)))
@@ -105,7 +105,7 @@ short b q {n} e h = rw (payload b q, ← e) (le-ltb 254 (2 * n) (omega arith))
 -- ---- a reply has at most 259 bytes
 
 body-length : (b : Board) (q : Query) → length (bodyOf b q) ≡ cond (hasLength q) 3 2 + payloadOf b q
-unfolding bodyOf payloadOf hasLength
+unfolding bodyBy payloadOf hasLength
 body-length b (Registers at n) = omega (arith, words-length 2 be16 (valueAt b) at n (λ w. refl))
 body-length b (Live command at n) = omega (arith, words-length 2 le16 (valueAt b) at n (λ w. refl))
 body-length b NewEvents =

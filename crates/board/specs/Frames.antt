@@ -34,18 +34,22 @@ valueOf Nothing = 0
 unfoldable pub valueAt : Board → ℕ → ℕ
 valueAt b at = valueOf (shownAt b at)
 
--- the bytes that answer a query, before the CRC. Except in 0x03 and 0x10, multi-byte data goes low byte first
-unfoldable pub bodyOf : Board → Query → List ℕ
-bodyOf b (Registers at n) = 0xAA ∷ 0x03 ∷ 2 * n ∷ words be16 (valueAt b) at n
-bodyOf b (Live command at n) = 0xAA ∷ command ∷ words le16 (valueAt b) at n
-bodyOf b NewEvents =
+-- the bytes that answer a query, before the CRC, where registers show those values. Except in 0x03 and 0x10, multi-byte data goes low
+-- byte first
+unfoldable pub bodyBy : (ℕ → ℕ) → Board → Query → List ℕ
+bodyBy value b (Registers at n) = 0xAA ∷ 0x03 ∷ 2 * n ∷ words be16 value at n
+bodyBy value b (Live command at n) = 0xAA ∷ command ∷ words le16 value at n
+bodyBy value b NewEvents =
     0xAA ∷ 0x11 ∷ (4 + 4 * newCount (b .hire .events)) ∷ words le32 (eventLongs (b .pack .clock .seconds) (newOf (b .hire .events))) 0 (1 + newCount (b .hire .events))
-bodyOf b AllEvents =
+bodyBy value b AllEvents =
     0xAA ∷ 0x12 ∷ (4 + 4 * keptCount (b .hire .events)) ∷ words le32 (eventLongs (b .pack .clock .seconds) (keptOf (b .hire .events))) 0 (1 + keptCount (b .hire .events))
-bodyOf b Temperatures =
+bodyBy value b Temperatures =
     0xAA ∷ 0x1B ∷ 6 ∷ le16 (signed.bitsOf (b .hire .sensed .internal)) ++ le16 (signed.bitsOf (b .hire .sensed .external1)) ++ le16 (signed.bitsOf (b .hire .sensed .external2))
-bodyOf b Cells = 0xAA ∷ 0x1C ∷ 2 * (b .pack .cells) ∷ words le16 (valueAt b) 0 (b .pack .cells)
-bodyOf b (SettingsOf kind n) = 0xAA ∷ 0x1D ∷ 2 * n ∷ words le16 (settings.registerOf (settings.ofKind (b .pack .settings) kind)) 300 n
+bodyBy value b Cells = 0xAA ∷ 0x1C ∷ 2 * (b .pack .cells) ∷ words le16 value 0 (b .pack .cells)
+bodyBy value b (SettingsOf kind n) = 0xAA ∷ 0x1D ∷ 2 * n ∷ words le16 (settings.registerOf (settings.ofKind (b .pack .settings) kind)) 300 n
+
+abbrev pub bodyOf : Board → Query → List ℕ
+bodyOf b q = bodyBy (valueAt b) b q
 
 -- the bytes of data in it
 unfoldable pub payloadOf : Board → Query → ℕ

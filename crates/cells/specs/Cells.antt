@@ -41,6 +41,6 @@ decides r303 r308 lowest cell = ltb (10 * r303) cell && ltb (10 * r308) (cell - 
 abbrev pub decisionOf : ℕ → ℕ → List ℕ → ℕ
 decisionOf r303 r308 cells = packed (decides r303 r308 (lowestOf cells)) (take 16 cells)
 
--- a cell in mV, rounded down
+-- a cell in mV, to the nearest, a half going up (W-206)
 abbrev pub millivoltsOf : ℕ → ℕ
-millivoltsOf cell = cell / 10
+millivoltsOf cell = (cell + 5) / 10

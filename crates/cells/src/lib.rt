@@ -80,7 +80,7 @@ pub fn decision(cells: &[u16], r303: u16, r308: u16) -> u16
 pub fn millivolts(cell: u16) -> u16
     ensures { λ r. ⌜ r ≡ millivoltsOf cell ⌝ }
 {
-    cell / 10
+    (((cell as u32) + 5) / 10) as u16
 }
 
 fn lower(a: u16, b: u16) -> u16

@@ -5,3 +5,4 @@ pub mod WrongBoards
 pub mod Needed
 pub mod Invariants
 pub mod ReadsBack
+pub mod Rounding

@@ -30,7 +30,7 @@ use Rattle.board.specs.declared.Board.{Board}
 use Rattle.board.specs.declared.Shown.the-variants.{Register}
 use Rattle.board.specs.Start.{startBoard}
 use Rattle.board.specs.Registers.{shownAt}
-use Rattle.board.specs.Frames.{valueOf, valueAt, bodyOf, writeNumber}
+use Rattle.board.specs.Frames.{valueOf, valueAt, bodyBy, bodyOf, writeNumber}
 use Rattle.board.specs.Calls.{Call, tick, frame, handover}
 use Rattle.board.specs.Behaviour.{board, afterIn}
 use Rattle.board.specs.Account.{Deed, took, wrote, sent, handed, nothing, row, writing, covers, given, settingsAt, distanceAt, boardAt, requestDeed, deedOf, deedsOf}
@@ -224,7 +224,7 @@ module _ (h : List Deed) (all : All Gives (each writing (since never h))) where
 -- ---- of the board after any calls
 
 -- rows of equal numbers
-words-same : (bytes : ℕ → List ℕ) (f g : ℕ → ℕ) (at n : ℕ) → ((i : ℕ) → i < n → f (at + i) ≡ g (at + i)) → words bytes f at n ≡ words bytes g at n
+pub words-same : (bytes : ℕ → List ℕ) (f g : ℕ → ℕ) (at n : ℕ) → ((i : ℕ) → i < n → f (at + i) ≡ g (at + i)) → words bytes f at n ≡ words bytes g at n
 unfolding words
 words-same bytes f g at zero e = refl
 words-same bytes f g at (suc n) e = rw (words-same bytes f g at n (λ i l. e i (omega arith)), e n (omega arith))
@@ -252,14 +252,14 @@ module _ (cells perKm : ℕ) (cs : List Call) (typed : Typed cs) where
 
   -- the reply of 0x03, before its CRC: the registers of a block
   pub block-reads : (at n : ℕ) → 300 ≤ at → at + n ≤ 400 → bodyOf after (Registers at n) ≡ 0xAA ∷ 0x03 ∷ 2 * n ∷ words be16 (λ k. lastGiven k made) at n
-  unfolding bodyOf valueAt
+  unfolding bodyBy valueAt
   block-reads at n l m =
       ap (λ (bytes : List ℕ). 0xAA ∷ 0x03 ∷ 2 * n ∷ bytes)
       (words-same be16 (valueAt after) (λ k. lastGiven k made) at n (λ i k. ap valueOf (register-reads (at + i) (omega arith) (omega arith))))
 
   -- the reply of 0x1D, current
   pub settings-read : (n : ℕ) → bodyOf after (SettingsOf Current n) ≡ 0xAA ∷ 0x1D ∷ 2 * n ∷ words le16 (λ k. lastGiven k made) 300 n
-  unfolding bodyOf settings.ofKind boardAt
+  unfolding bodyBy settings.ofKind boardAt
   settings-read n =
       holds-after (λ b. bodyOf b (SettingsOf Current n) ≡ 0xAA ∷ 0x1D ∷ 2 * n ∷ words le16 (λ k. lastGiven k made) 300 n)
       (ap (λ (bytes : List ℕ). 0xAA ∷ 0x1D ∷ 2 * n ∷ bytes)

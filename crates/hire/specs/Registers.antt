@@ -11,7 +11,7 @@ use Rattle.signed.specs.Signed as signed
 use Rattle.hire.specs.declared.Sensed.{Sensed}
 use Rattle.hire.specs.declared.Hire.{Hire}
 
--- 0 to 15 cells, 32 lifetime, 36 to 39 pack volts and amps, 40 and 41 lowest and highest cell in mV, 42, 43, 48 temperatures,
+-- 0 to 15 cells, 32 lifetime, 36 to 39 pack volts and amps, 40 and 41 lowest and highest cell to the nearest mV, 42, 43, 48 temperatures,
 -- 50 status, 51 and 52 balancing, 54 and 55 speed; an unlisted register reads 0
 unfoldable pub liveRegister : Hire → ℕ → ℕ → ℕ → ℕ
 liveRegister h lifetime perKm at =

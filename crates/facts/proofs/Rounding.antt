@@ -1,0 +1,127 @@
+-- W-206. Registers 40 and 41, and commands 0x16 and 0x17, round to the nearest mV; protections, statistics and balancing are unchanged. Beside our
+-- board stands the one that rounds down, as document 01 had it: from any start and through any calls both are in one state (settings, latches,
+-- waits, events, statistics, bits, switches), give the same numbers, switches and bits, and the same replies, but for the words of registers 40 and
+-- 41. Why: the state keeps cells in 0.1 mV, and only a reply rounds.
+-- Assumes nothing.
+use mathlib.Core.Path.{_≡_, refl, ap}
+use mathlib.Core.Bool.{Bool, true, false, _&&_, cond}
+use mathlib.Core.List.{List, [], _∷_}
+use Prim.Native.Nat.{ℕ, _+_, _*_, _/_, _≤_, _<_}
+use native.Mathlib.Omega.{arith}
+use borrow.Author.Tests.{ne-eqb, leb-true}
+use lib.Dec.{eqb, leb, ltb}
+use Rattle.wire.specs.Wire.{le16, be16, words, sealed, padded, nackOf}
+use Rattle.requests.specs.declared.Query.{Query}
+use Rattle.requests.specs.declared.Query.the-variants.{Registers, Live, NewEvents, AllEvents, Temperatures, Cells, SettingsOf}
+use Rattle.requests.specs.declared.Request.{Request}
+use Rattle.requests.specs.declared.Request.the-variants as request
+use Rattle.requests.specs.Requests.{commandOf, requestOf}
+use Rattle.requests.proofs.Sound.{registersOf}
+use Rattle.pack.specs.declared.Pack.{Pack}
+use Rattle.hire.specs.Hire.{newHire}
+use Rattle.hire.specs.Registers.{liveRegister}
+use Rattle.board.specs.declared.Board.{Board}
+use Rattle.board.specs.declared.Shown.the-variants.{Register}
+use Rattle.board.specs.State.{usable}
+use Rattle.board.specs.Start.{startBoard}
+use Rattle.board.specs.Registers.{shownAt}
+use Rattle.board.specs.Frames.{valueAt, bodyBy, tooLong, queryReply, requestReply, frameReply}
+use Rattle.board.specs.Calls.{Call, Seen, tick, frame, handover, step}
+use Rattle.board.specs.Behaviour.{Behaviour, board, afterIn}
+use Rattle.facts.proofs.ReadsBack.{words-same}
+
+-- ---- the board that rounds down
+
+-- a register as it shows it
+abbrev pub valueDown : Board → ℕ → ℕ
+valueDown b at = cond (eqb at 40) (b .hire .sensed .extremes .lowest / 10) (cond (eqb at 41) (b .hire .sensed .extremes .highest / 10) (valueAt b at))
+
+-- a reply with those registers; all else as ours
+unfoldable pub requestDown : Board → List ℕ → Request → List ℕ
+requestDown b s (request.Refused refusal) = requestReply b s (request.Refused refusal)
+requestDown b s request.ClearEvents = requestReply b s request.ClearEvents
+requestDown b s request.ClearStatistics = requestReply b s request.ClearStatistics
+requestDown b s (request.Write from n) = requestReply b s (request.Write from n)
+requestDown b s (request.Read q) = sealed (cond (tooLong b q) (nackOf (commandOf q) 0x00) (bodyBy (valueDown b) b q))
+
+unfoldable pub replyDown : Board → List ℕ → ℕ → List ℕ
+replyDown b s room = padded room (cond (usable b) (cond (ltb room 259) [] (requestDown b s (requestOf s))) [])
+
+unfoldable pub bufferDown : Board → Call → List ℕ
+bufferDown b (tick cells r) = []
+bufferDown b (frame s room) = replyDown b s room
+bufferDown b handover = []
+
+abbrev pub roundingDown : Behaviour
+roundingDown =
+    record {
+      State = Board;
+      start = startBoard;
+      started = board .started;
+      step = λ b c. (step b c .0, record { number = step b c .1 .number; buffer = bufferDown b c; charge = step b c .1 .charge; discharge = step b c .1 .discharge; decision = step b c .1 .decision; balancing = step b c .1 .balancing });
+    }
+
+-- ---- unchanged
+
+-- the state, through any calls
+pub same-state : (b : Board) (cs : List Call) → afterIn roundingDown b cs ≡ afterIn board b cs
+unfolding afterIn
+same-state b [] = refl
+same-state b (c ∷ cs) = same-state (step b c .0) cs
+
+-- the number, the switches and the bits of each call
+pub record Shows (a d : Seen) : Type 0 where
+  pub number : a .number ≡ d .number
+  pub charge : a .charge ≡ d .charge
+  pub discharge : a .discharge ≡ d .discharge
+  pub decision : a .decision ≡ d .decision
+  pub balancing : a .balancing ≡ d .balancing
+
+pub same-shown : (b : Board) (c : Call) → Shows (board .step b c .1) (roundingDown .step b c .1)
+same-shown b c = record { number = refl; charge = refl; discharge = refl; decision = refl; balancing = refl }
+
+-- every register but 40 and 41
+pub same-value : (b : Board) (at : ℕ) → (at ≡ 40 → ⊥) → (at ≡ 41 → ⊥) → valueDown b at ≡ valueAt b at
+same-value b at lowest highest = rw (ne-eqb at 40 lowest, ne-eqb at 41 highest)
+
+-- so a reply to a query that names neither, to the byte. (Where it names one, its words are those values, register by register.)
+abbrev Neither : Query → Type 0
+Neither q = (i : ℕ) → i < registersOf q .1 → (registersOf q .0 + i ≡ 40 → ⊥) × (registersOf q .0 + i ≡ 41 → ⊥)
+
+same-body : (b : Board) (q : Query) → b .pack .cells ≤ 16 → Neither q → bodyBy (valueDown b) b q ≡ bodyBy (valueAt b) b q
+unfolding bodyBy registersOf
+same-body b (Registers at n) few away =
+    ap (λ (l : List ℕ). 0xAA ∷ 0x03 ∷ 2 * n ∷ l) (words-same be16 (valueDown b) (valueAt b) at n (λ i k. same-value b (at + i) (away i k .0) (away i k .1)))
+same-body b (Live command at n) few away =
+    ap (λ (l : List ℕ). 0xAA ∷ command ∷ l) (words-same le16 (valueDown b) (valueAt b) at n (λ i k. same-value b (at + i) (away i k .0) (away i k .1)))
+same-body b NewEvents few away = refl
+same-body b AllEvents few away = refl
+same-body b Temperatures few away = refl
+same-body b Cells few away =
+    ap (λ (l : List ℕ). 0xAA ∷ 0x1C ∷ 2 * (b .pack .cells) ∷ l)
+    (words-same le16 (valueDown b) (valueAt b) 0 (b .pack .cells) (λ i k. same-value b (0 + i) (λ e. omega arith) (λ e. omega arith)))
+same-body b (SettingsOf kind n) few away = refl
+
+pub same-reply : (b : Board) (s : List ℕ) (room : ℕ) → ((q : Query) → requestOf s ≡ request.Read q → Neither q) → replyDown b s room ≡ frameReply b s room
+unfolding replyDown frameReply requestDown requestReply queryReply
+same-reply b s room away = go (leb 4 (b .pack .cells)) (leb (b .pack .cells) 16) refl (ltb room 259)
+  where
+    same : b .pack .cells ≤ 16 → (q : Request) → requestOf s ≡ q → requestDown b s q ≡ requestReply b s q
+    same few (request.Refused refusal) e = refl
+    same few request.ClearEvents e = refl
+    same few request.ClearStatistics e = refl
+    same few (request.Write from n) e = refl
+    same few (request.Read q) e = ap (λ (body : List ℕ). sealed (cond (tooLong b q) (nackOf (commandOf q) 0x00) body)) (same-body b q few (away q e))
+
+    go : (u v : Bool) → leb (b .pack .cells) 16 ≡ v → (t : Bool)
+        → padded room (cond (u && v) (cond t [] (requestDown b s (requestOf s))) []) ≡ padded room (cond (u && v) (cond t [] (requestReply b s (requestOf s))) [])
+    go false v e t = refl
+    go true false e t = refl
+    go true true e true = refl
+    go true true e false = ap (padded room) (same (leb-true (b .pack .cells) 16 e) (requestOf s) refl)
+
+-- ---- 0 before the first tick and after a handover, as before
+
+pub none-read : (p : Pack) → (shownAt (record { pack = p; hire = newHire (p .clock .seconds) }) 40 ≡ Register 0) × (shownAt (record { pack = p; hire = newHire (p .clock .seconds) }) 41 ≡ Register 0)
+unfolding shownAt liveRegister newHire
+none-read p = (refl, refl)
