@@ -3,13 +3,15 @@
 -- waits, events, statistics, bits, switches), give the same numbers, switches and bits, and the same replies, but for the words of registers 40 and
 -- 41. Why: the state keeps cells in 0.1 mV, and only a reply rounds.
 -- Assumes nothing.
-use mathlib.Core.Path.{_≡_, refl, ap}
+use mathlib.Core.Path.{_≡_, refl, sym, ap, _∙_, subst⁻¹}
 use mathlib.Core.Bool.{Bool, true, false, _&&_, cond}
-use mathlib.Core.List.{List, [], _∷_}
-use Prim.Native.Nat.{ℕ, _+_, _*_, _/_, _≤_, _<_}
+use mathlib.Core.List.{List, [], _∷_, _++_}
+use Prim.Native.Nat.{ℕ, zero, suc, _+_, _*_, _/_, _≤_, _<_}
 use native.Mathlib.Omega.{arith}
-use borrow.Author.Tests.{ne-eqb, leb-true}
+use borrow.Author.Tests.{ne-eqb, eqb-true, eqb-false, leb-true}
 use lib.Dec.{eqb, leb, ltb}
+use lib.ListN.{length, take, drop, length-drop}
+use lib.Seq.{take-all, take-append-le, drop-append-le, drop-at}
 use Rattle.wire.specs.Wire.{le16, be16, words, sealed, padded, nackOf}
 use Rattle.requests.specs.declared.Query.{Query}
 use Rattle.requests.specs.declared.Query.the-variants.{Registers, Live, NewEvents, AllEvents, Temperatures, Cells, SettingsOf}
@@ -28,6 +30,7 @@ use Rattle.board.specs.Registers.{shownAt}
 use Rattle.board.specs.Frames.{valueAt, bodyBy, tooLong, queryReply, requestReply, frameReply}
 use Rattle.board.specs.Calls.{Call, Seen, tick, frame, handover, step}
 use Rattle.board.specs.Behaviour.{Behaviour, board, afterIn}
+use Rattle.wire.proofs.Writing.{words-length}
 use Rattle.facts.proofs.ReadsBack.{words-same}
 
 -- ---- the board that rounds down
@@ -84,7 +87,32 @@ same-shown b c = record { number = refl; charge = refl; discharge = refl; decisi
 pub same-value : (b : Board) (at : ℕ) → (at ≡ 40 → ⊥) → (at ≡ 41 → ⊥) → valueDown b at ≡ valueAt b at
 same-value b at lowest highest = rw (ne-eqb at 40 lowest, ne-eqb at 41 highest)
 
--- so a reply to a query that names neither, to the byte. (Where it names one, its words are those values, register by register.)
+-- so every word of a reply's data but theirs: the i-th word of a row of registers from `at` on
+word-at : (bytes : ℕ → List ℕ) (f : ℕ → ℕ) (at n i : ℕ) → ((w : ℕ) → length (bytes w) ≡ 2) → i < n → take 2 (drop (2 * i) (words bytes f at n)) ≡ bytes (f (at + i))
+unfolding words
+word-at bytes f at zero i two l = absurd (omega arith)
+word-at bytes f at (suc n) i two l = go (eqb i n) refl (λ m. word-at bytes f at n i two m)
+  where
+    long : length (words bytes f at n) ≡ 2 * n
+    long = words-length 2 bytes f at n two
+
+    go : (t : Bool) → eqb i n ≡ t → (i < n → take 2 (drop (2 * i) (words bytes f at n)) ≡ bytes (f (at + i)))
+        → take 2 (drop (2 * i) (words bytes f at n ++ bytes (f (at + n)))) ≡ bytes (f (at + i))
+    go true e older =
+        subst⁻¹ (λ j. take 2 (drop (2 * j) (words bytes f at n ++ bytes (f (at + n)))) ≡ bytes (f (at + j))) (eqb-true i n e)
+        (ap (take 2) (drop-at (words bytes f at n) (bytes (f (at + n))) (2 * n) long) ∙ take-all 2 (bytes (f (at + n))) (omega (arith, two (f (at + n)))))
+    go false e older =
+        let m : i < n = omega (arith, eqb-false) in
+        ap (take 2) (drop-append-le (2 * i) (words bytes f at n) (bytes (f (at + n))) (omega (arith, long)))
+        ∙ take-append-le 2 (drop (2 * i) (words bytes f at n)) (bytes (f (at + n))) (omega (arith, long, length-drop (2 * i) (words bytes f at n)))
+        ∙ older m
+
+pub other-words : (b : Board) (bytes : ℕ → List ℕ) (at n i : ℕ) → ((w : ℕ) → length (bytes w) ≡ 2) → i < n → (at + i ≡ 40 → ⊥) → (at + i ≡ 41 → ⊥)
+    → take 2 (drop (2 * i) (words bytes (valueDown b) at n)) ≡ take 2 (drop (2 * i) (words bytes (valueAt b) at n))
+other-words b bytes at n i two l lowest highest =
+    word-at bytes (valueDown b) at n i two l ∙ ap bytes (same-value b (at + i) lowest highest) ∙ sym (word-at bytes (valueAt b) at n i two l)
+
+-- and the whole reply to a query that names neither, to the byte
 abbrev Neither : Query → Type 0
 Neither q = (i : ℕ) → i < registersOf q .1 → (registersOf q .0 + i ≡ 40 → ⊥) × (registersOf q .0 + i ≡ 41 → ⊥)
 
