@@ -31,7 +31,7 @@ use Rattle.board.specs.declared.Shown.the-variants.{Register}
 use Rattle.board.specs.Start.{startBoard}
 use Rattle.board.specs.Registers.{shownAt}
 use Rattle.board.specs.Frames.{valueOf, valueAt, bodyBy, bodyOf, writeNumber}
-use Rattle.board.specs.Calls.{Call, tick, frame, handover}
+use Rattle.board.specs.Calls.{Call, Seen, tick, frame, handover, step}
 use Rattle.board.specs.Behaviour.{board, afterIn}
 use Rattle.board.specs.Account.{Deed, took, wrote, sent, handed, nothing, row, writing, covers, given, settingsAt, distanceAt, boardAt, requestDeed, deedOf, deedsOf}
 use Rattle.board.specs.Demands.{deeds}
@@ -273,3 +273,13 @@ module _ (cells perKm : ℕ) (cs : List Call) (typed : Typed cs) where
         holds-after (λ b. shownAt b 100 ≡ Register (lowHalf (distanceAt perKm made))) (ap (λ n. Register (lowHalf n)) e),
         holds-after (λ b. shownAt b 101 ≡ Register (highHalf (distanceAt perKm made))) (ap (λ n. Register (highHalf n)) e),
       )
+
+-- ---- of any machine whose state is a board: what `register-reads` says, so that a wrong one can be shut out (WrongBoards.dropping)
+
+abbrev pub ReadsBack : (Board → Call → Board × Seen) → Type 0
+ReadsBack does =
+    (cells perKm : ℕ) (cs : List Call) → Typed cs → (at : ℕ) → 300 ≤ at → at ≤ 399
+    → shownAt (afterIn (record { State = Board; start = startBoard; started = board .started; step = does }) (startBoard cells perKm) cs) at ≡ Register (lastGiven at (deeds cells perKm cs))
+
+pub reads-back-held : ReadsBack step
+reads-back-held = register-reads

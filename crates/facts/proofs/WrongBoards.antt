@@ -1,7 +1,8 @@
 -- The demands shut out wrong boards. Demand 1: a board that accepts everything, one that leaves a byte of the last reply behind the next,
 -- one that answers 4 where 3 is due, one that answers 0 to a start of three cells. Demand 2: a board that NACKs everything, one that always replies idle, one that answers its first
 -- frame and repeats it, statistics with invented counts. Demand 3: a handover that does nothing, and one that shows the last rider's switches once more. Some of the first look the same
--- for two riders: the ones that NACK everything or reply idle meet demand 3, so demand 3 is stated of boards that meet demand 2.
+-- for two riders: the ones that NACK everything or reply idle meet demand 3, so demand 3 is stated of boards that meet demand 2. And that a
+-- write reads back shuts out a board that accepts it and does not keep it.
 -- Assumes nothing.
 use mathlib.Core.Path.{_≡_, refl, sym, ap}
 use mathlib.Core.Bool.{Bool, true, false, cond, false≢true}
@@ -21,7 +22,10 @@ use Rattle.wire.specs.Wire.{padded, sealed, nackOf}
 use Rattle.board.specs.Calls.{Call, Seen, seen, tick, frame, handover, step}
 use Rattle.board.specs.Behaviour.{Behaviour, board}
 use Rattle.board.specs.Demands.{Demand1, Demand2, Demand3}
+use Rattle.board.specs.Frames.{valueOf}
 use Rattle.board.proofs.Opened.{accounted}
+use Rattle.facts.proofs.Invariants.{TypedCall}
+use Rattle.facts.proofs.ReadsBack.{ReadsBack}
 
 -- ---- requests, and what is looked at in the answers
 
@@ -34,6 +38,10 @@ events = frame (0xAA ∷ 0x12 ∷ 0xFF ∷ 0x1D ∷ []) 259
 -- register 105, UV latchings
 abbrev latchings : Call
 latchings = frame (0xAA ∷ 0x03 ∷ 0x00 ∷ 0x69 ∷ 0x00 ∷ 0x01 ∷ 0x4D ∷ 0xCD ∷ []) 259
+
+-- 800 to register 316
+abbrev written : Call
+written = frame (0xAA ∷ 0x10 ∷ 0x01 ∷ 0x3C ∷ 0x00 ∷ 0x01 ∷ 0x02 ∷ 0x03 ∷ 0x20 ∷ 0x39 ∷ 0xB3 ∷ []) 259
 
 -- what is seen of a board that shows no switch and no bit
 abbrev says : ℕ → List ℕ → Seen
@@ -219,3 +227,18 @@ lingering-fails h =
     let e = h 4 2000 (rides true ∷ []) (rides false ∷ []) [] (inr (record { settings = refl; clock = refl; latched = refl; waits = refl })) in
     let z : true ≡ false = ap (λ (answers : List Seen). getD answers 0 (says 0 []) .charge) e in
     absurd (false≢true (sym z))
+
+-- ---- a write is accepted, and not kept
+
+abbrev drops : Board → Call → Board × Seen
+drops b (tick cells r) = step b (tick cells r)
+drops b (frame s room) = (b, step b (frame s room) .1)
+drops b handover = step b handover
+
+-- 800 was written to register 316, and it shows 2900 still
+pub dropping-fails : ¬ ReadsBack drops
+unfolding accounted
+dropping-fails h =
+    let bytes : TypedCall written = (omega arith, (omega arith, (omega arith, (omega arith, (omega arith, (omega arith, (omega arith, (omega arith, (omega arith, (omega arith, (omega arith, tt))))))))))) in
+    let z : _≡_ {A = ℕ} 2900 800 = ap valueOf (h 4 2000 (written ∷ []) (bytes, tt) 316 (omega arith) (omega arith)) in
+    omega arith
