@@ -1,6 +1,7 @@
 pub mod Ticks
 pub mod Frames
 pub mod BoundaryTable
+pub mod Calls
 pub mod WrongBoards
 pub mod Needed
 pub mod Invariants

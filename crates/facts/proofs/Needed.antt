@@ -6,41 +6,15 @@ use mathlib.Core.Bool.{true, false, false≢true}
 use mathlib.Core.List.{List, [], _∷_}
 use Prim.Native.Nat.{ℕ}
 use native.Mathlib.Omega.{arith}
-use lib.IntN.{ℤ, pos, negsuc}
-use lib.ListN.{getD, replicate}
+use lib.IntN.{negsuc}
+use lib.ListN.{replicate}
 use Rattle.guard.specs.Quiet.{quiet}
-use Rattle.board.specs.Calls.{Call, Seen, tick, frame}
+use Rattle.board.specs.Calls.{Seen}
 use Rattle.board.specs.Behaviour.{board}
 use Rattle.board.specs.Account.{settingsAt, clockAt, latchedAt}
 use Rattle.board.specs.Demands.{deeds, Quieted, BothQuiet, SameKept, Alike}
 use Rattle.board.proofs.Opened.{accounted}
-
--- a tick with level cells at 20 °C, with that current and those pulses; still, and one at which DOC holds
-abbrev flow : ℤ → ℕ → Call
-flow current pulses =
-    tick (replicate 4 37000) (record { current = current; internal = pos 200; external1 = pos 200; external2 = pos 200; pulses = pulses; charger = false; ignition = false })
-
-abbrev still : Call
-still = flow (pos 0) 0
-
-abbrev drawn : Call
-drawn = flow (negsuc 59999) 0
-
--- 332, the wait, written to 30 s: 300 ticks; the kept events; the lifetime
-abbrev longest-wait : Call
-longest-wait = frame (0xAA ∷ 0x10 ∷ 0x01 ∷ 0x4C ∷ 0x00 ∷ 0x01 ∷ 0x02 ∷ 0x00 ∷ 0x1E ∷ 0xB3 ∷ 0xA3 ∷ []) 259
-
-abbrev events : Call
-events = frame (0xAA ∷ 0x12 ∷ 0xFF ∷ 0x1D ∷ []) 259
-
-abbrev lifetime : Call
-lifetime = frame (0xAA ∷ 0x19 ∷ 0xBE ∷ 0xDA ∷ []) 259
-
-abbrev nothing-seen : Seen
-nothing-seen = record { number = 0; buffer = []; charge = false; discharge = false; decision = 0; balancing = 0 }
-
-abbrev byteAt : ℕ → ℕ → List Seen → ℕ
-byteAt n i answers = getD (getD answers n nothing-seen .buffer) i 0
+use Rattle.facts.proofs.Calls.{flow, still, drawn, longest-wait, events, lifetime, answerAt, byteAt}
 
 -- ---- 300
 
@@ -70,11 +44,11 @@ pub needs-waits : ¬ Alike board (λ h k. (settingsAt h ≡ settingsAt k) × (cl
 unfolding accounted
 needs-waits alike =
     let e = alike 4 2000 (drawn ∷ still ∷ []) (still ∷ drawn ∷ []) (replicate 49 still) (refl, refl, refl) in
-    let z : true ≡ false = ap (λ (answers : List Seen). getD answers 49 nothing-seen .discharge) e in
+    let z : true ≡ false = ap (λ (answers : List Seen). answerAt 49 answers .discharge) e in
     absurd (false≢true (sym z))
 
 -- ---- a condition latched at the handover is no hindrance
 
-pub with-a-latch : SameKept (deeds 4 2000 (flow (negsuc 59999) 100 ∷ [])) (deeds 4 2000 (drawn ∷ [])) × (latchedAt (deeds 4 2000 (drawn ∷ [])) .doc ≡ true)
+pub with-a-latch : SameKept (deeds 4 2000 (flow (negsuc 59999) 100 false ∷ [])) (deeds 4 2000 (drawn ∷ [])) × (latchedAt (deeds 4 2000 (drawn ∷ [])) .doc ≡ true)
 unfolding accounted
 with-a-latch = (record { settings = refl; clock = refl; latched = refl; waits = refl }, refl)

@@ -2,7 +2,7 @@
 -- that covers it gave it, as it was sent, else its factory value; by its number and in the replies of 0x03 and of 0x1D (current). And the
 -- distance is exact since the clear, rounded once. Why: the board is the one that its deeds make, and an accepted write gave an unlisted register 0.
 -- Assumes nothing.
-use mathlib.Core.Path.{_≡_, refl, sym, ap, _∙_, subst⁻¹}
+use mathlib.Core.Path.{_≡_, refl, sym, ap, ap₂, _∙_, subst⁻¹}
 use mathlib.Core.Bool.{Bool, true, false, _&&_, _||_, not, cond, false≢true}
 use mathlib.Core.List.{List, [], _∷_, _++_, map, reverse}
 use Prim.Native.Nat.{ℕ, zero, suc, _+_, _*_, _-_, _≤_, _<_}
@@ -21,18 +21,21 @@ use Rattle.settings.specs.Settings as settings
 use Rattle.signed.specs.Signed.{bitsOf, fromBits}
 use Rattle.statistics.specs.Statistics as statistics
 use Rattle.pack.specs.Pack.{usableCount}
-use Rattle.wire.specs.Wire.{le16, be16, words}
+use Rattle.wire.specs.Wire.{le16, be16, words, sealed, padded, nackOf}
+use Rattle.requests.specs.declared.Query.{Query}
 use Rattle.requests.specs.declared.Query.the-variants.{Registers, SettingsOf}
 use Rattle.requests.specs.declared.Request.{Request}
 use Rattle.requests.specs.declared.Request.the-variants as request
-use Rattle.requests.specs.Requests.{be16At, requestOf, marks, draftedOf}
+use Rattle.requests.specs.Requests.{be16At, requestOf, commandOf, marks, draftedOf}
 use Rattle.board.specs.declared.Board.{Board}
+use Rattle.board.specs.declared.Shown.{Shown}
 use Rattle.board.specs.declared.Shown.the-variants.{Register}
+use Rattle.board.specs.State.{usable}
 use Rattle.board.specs.Start.{startBoard}
 use Rattle.board.specs.Registers.{shownAt}
-use Rattle.board.specs.Frames.{valueOf, valueAt, bodyBy, bodyOf, writeNumber}
+use Rattle.board.specs.Frames.{valueOf, valueAt, bodyBy, bodyOf, tooLong, writeNumber, requestNumber, queryReply, requestReply, frameNumber, frameReply}
 use Rattle.board.specs.Calls.{Call, Seen, tick, frame, handover, step}
-use Rattle.board.specs.Behaviour.{board, afterIn}
+use Rattle.board.specs.Behaviour.{Behaviour, board, afterIn}
 use Rattle.board.specs.Account.{Deed, took, wrote, sent, handed, nothing, row, writing, covers, given, settingsAt, distanceAt, boardAt, requestDeed, deedOf, deedsOf}
 use Rattle.board.specs.Demands.{deeds}
 use Rattle.board.proofs.Account.Shown.{reads-back, same-bits, distance-shown}
@@ -265,21 +268,60 @@ module _ (cells perKm : ℕ) (cs : List Call) (typed : Typed cs) where
       (ap (λ (bytes : List ℕ). 0xAA ∷ 0x1D ∷ 2 * n ∷ bytes)
       (words-same le16 (settings.registerOf (settingsAt made)) (λ k. lastGiven k made) 300 n (λ i k. reads made all-made (300 + i))))
 
-  -- 100 and 101, the distance
-  pub distance-reads : perKm ≤ 65535 → (shownAt after 100 ≡ Register (lowHalf (distanceAt perKm made))) × (shownAt after 101 ≡ Register (highHalf (distanceAt perKm made)))
-  unfolding shownAt statistics.registerOf boardAt
-  distance-reads held =
-      let e = distance-shown perKm made held in (
-        holds-after (λ b. shownAt b 100 ≡ Register (lowHalf (distanceAt perKm made))) (ap (λ n. Register (lowHalf n)) e),
-        holds-after (λ b. shownAt b 101 ≡ Register (highHalf (distanceAt perKm made))) (ap (λ n. Register (highHalf n)) e),
-      )
+-- 100 and 101, the distance
+pub distance-reads : (cells perKm : ℕ) (cs : List Call) → perKm ≤ 65535
+    → (shownAt (afterIn board (startBoard cells perKm) cs) 100 ≡ Register (lowHalf (distanceAt perKm (deeds cells perKm cs))))
+    × (shownAt (afterIn board (startBoard cells perKm) cs) 101 ≡ Register (highHalf (distanceAt perKm (deeds cells perKm cs))))
+unfolding shownAt statistics.registerOf boardAt
+distance-reads cells perKm cs most =
+    let e = distance-shown perKm (deeds cells perKm cs) most in
+    let after : afterIn board (startBoard cells perKm) cs ≡ boardAt cells perKm (deeds cells perKm cs) = account cells perKm cs in (
+      subst⁻¹ (λ (b : Board). shownAt b 100 ≡ Register (lowHalf (distanceAt perKm (deeds cells perKm cs)))) after (ap (λ n. Register (lowHalf n)) e),
+      subst⁻¹ (λ (b : Board). shownAt b 101 ≡ Register (highHalf (distanceAt perKm (deeds cells perKm cs)))) after (ap (λ n. Register (highHalf n)) e),
+    )
 
--- ---- of any machine whose state is a board: what `register-reads` says, so that a wrong one can be shut out (WrongBoards.dropping)
+-- ---- as a caller sees it, of any behaviour
 
-abbrev pub ReadsBack : (Board → Call → Board × Seen) → Type 0
-ReadsBack does =
-    (cells perKm : ℕ) (cs : List Call) → Typed cs → (at : ℕ) → 300 ≤ at → at ≤ 399
-    → shownAt (afterIn (record { State = Board; start = startBoard; started = board .started; step = does }) (startBoard cells perKm) cs) at ≡ Register (lastGiven at (deeds cells perKm cs))
+-- what is seen at a frame after those calls
+abbrev seenAt : (B : Behaviour) → ℕ → ℕ → List Call → List ℕ → ℕ → Seen
+seenAt B cells perKm cs s room = B .step (afterIn B (B .start cells perKm) cs) (frame s room) .1
 
-pub reads-back-held : ReadsBack step
-reads-back-held = register-reads
+-- what an accepted 0x03 of settings, an accepted 0x1D (current), and an accepted 0x03 of the distance reply
+pub record ReadsBack (B : Behaviour) : Type 0 where
+  pub block : (cells perKm : ℕ) (cs : List Call) → Typed cs → (s : List ℕ) (room at n : ℕ)
+      → requestOf s ≡ request.Read (Registers at n) → 300 ≤ at → at + n ≤ 400 → seenAt B cells perKm cs s room .number ≡ 0
+      → seenAt B cells perKm cs s room .buffer ≡ padded room (sealed (0xAA ∷ 0x03 ∷ 2 * n ∷ words be16 (λ k. lastGiven k (deeds cells perKm cs)) at n))
+  pub current : (cells perKm : ℕ) (cs : List Call) → Typed cs → (s : List ℕ) (room n : ℕ)
+      → requestOf s ≡ request.Read (SettingsOf Current n) → seenAt B cells perKm cs s room .number ≡ 0
+      → seenAt B cells perKm cs s room .buffer ≡ padded room (sealed (0xAA ∷ 0x1D ∷ 2 * n ∷ words le16 (λ k. lastGiven k (deeds cells perKm cs)) 300 n))
+  pub distance : (cells perKm : ℕ) (cs : List Call) → perKm ≤ 65535 → (s : List ℕ) (room : ℕ)
+      → requestOf s ≡ request.Read (Registers 100 2) → seenAt B cells perKm cs s room .number ≡ 0
+      → seenAt B cells perKm cs s room .buffer ≡ padded room (sealed (0xAA ∷ 0x03 ∷ 4 ∷ be16 (lowHalf (distanceAt perKm (deeds cells perKm cs))) ++ be16 (highHalf (distanceAt perKm (deeds cells perKm cs)))))
+
+-- an accepted query is answered with its bytes
+answered : (b : Board) (s : List ℕ) (room : ℕ) (q : Query) → requestOf s ≡ request.Read q → step b (frame s room) .1 .number ≡ 0 → step b (frame s room) .1 .buffer ≡ padded room (sealed (bodyOf b q))
+unfolding step frameNumber frameReply requestNumber requestReply queryReply
+answered b s room q e =
+    subst⁻¹ (λ (r : Request). cond (usable b) (cond (ltb room 259) 1 (requestNumber b s r)) 21 ≡ 0 → padded room (cond (usable b) (cond (ltb room 259) [] (requestReply b s r)) []) ≡ padded room (sealed (bodyOf b q))) e
+    (go (usable b) (ltb room 259) (tooLong b q))
+  where
+    go : (u t l : Bool) → _≡_ {A = ℕ} (cond u (cond t 1 (cond l 5 0)) 21) 0 → padded room (cond u (cond t [] (sealed (cond l (nackOf (commandOf q) 0x00) (bodyOf b q)))) []) ≡ padded room (sealed (bodyOf b q))
+    go true false false z = refl
+    go true false true z = let y : _≡_ {A = ℕ} 5 0 = z in absurd (omega arith)
+    go true true l z = let y : _≡_ {A = ℕ} 1 0 = z in absurd (omega arith)
+    go false t l z = let y : _≡_ {A = ℕ} 21 0 = z in absurd (omega arith)
+
+pub held : ReadsBack board
+unfolding bodyBy valueAt words
+held =
+    record {
+      block = λ cells perKm cs typed s room at n e l m z.
+          answered (after cells perKm cs typed) s room (Registers at n) e z ∙ ap (λ (body : List ℕ). padded room (sealed body)) (block-reads cells perKm cs typed at n l m);
+      current = λ cells perKm cs typed s room n e z.
+          answered (after cells perKm cs typed) s room (SettingsOf Current n) e z ∙ ap (λ (body : List ℕ). padded room (sealed body)) (settings-read cells perKm cs typed n);
+      distance = λ cells perKm cs h s room e z.
+          let b = afterIn board (startBoard cells perKm) cs in
+          let d = distance-reads cells perKm cs h in
+          answered b s room (Registers 100 2) e z
+          ∙ ap₂ (λ (low high : Shown). padded room (sealed (0xAA ∷ 0x03 ∷ 4 ∷ be16 (valueOf low) ++ be16 (valueOf high)))) (d .0) (d .1);
+    }

@@ -2,7 +2,7 @@
 -- one that answers 4 where 3 is due, one that answers 0 to a start of three cells. Demand 2: a board that NACKs everything, one that always replies idle, one that answers its first
 -- frame and repeats it, statistics with invented counts. Demand 3: a handover that does nothing, and one that shows the last rider's switches once more. Some of the first look the same
 -- for two riders: the ones that NACK everything or reply idle meet demand 3, so demand 3 is stated of boards that meet demand 2. And that a
--- write reads back shuts out a board that accepts it and does not keep it.
+-- write and the distance read back shuts out a board that accepts a write and does not keep it, and a distance that outlives its rider.
 -- Assumes nothing.
 use mathlib.Core.Path.{_≡_, refl, sym, ap}
 use mathlib.Core.Bool.{Bool, true, false, cond, false≢true}
@@ -21,38 +21,12 @@ use Rattle.board.specs.Handover.{handoverOf}
 use Rattle.wire.specs.Wire.{padded, sealed, nackOf}
 use Rattle.board.specs.Calls.{Call, Seen, seen, tick, frame, handover, step}
 use Rattle.board.specs.Behaviour.{Behaviour, board}
+use Rattle.board.specs.Account.{distanceAt}
 use Rattle.board.specs.Demands.{Demand1, Demand2, Demand3}
-use Rattle.board.specs.Frames.{valueOf}
 use Rattle.board.proofs.Opened.{accounted}
-use Rattle.facts.proofs.Invariants.{TypedCall}
+use Rattle.facts.proofs.Calls.{flow, still, status, events, latchings, to-800, says, answerAt, numberAt, byteAt}
+use Rattle.facts.proofs.Invariants.{Typed}
 use Rattle.facts.proofs.ReadsBack.{ReadsBack}
-
--- ---- requests, and what is looked at in the answers
-
-abbrev status : Call
-status = frame (0xAA ∷ 0x18 ∷ 0x7F ∷ 0x1A ∷ []) 259
-
-abbrev events : Call
-events = frame (0xAA ∷ 0x12 ∷ 0xFF ∷ 0x1D ∷ []) 259
-
--- register 105, UV latchings
-abbrev latchings : Call
-latchings = frame (0xAA ∷ 0x03 ∷ 0x00 ∷ 0x69 ∷ 0x00 ∷ 0x01 ∷ 0x4D ∷ 0xCD ∷ []) 259
-
--- 800 to register 316
-abbrev written : Call
-written = frame (0xAA ∷ 0x10 ∷ 0x01 ∷ 0x3C ∷ 0x00 ∷ 0x01 ∷ 0x02 ∷ 0x03 ∷ 0x20 ∷ 0x39 ∷ 0xB3 ∷ []) 259
-
--- what is seen of a board that shows no switch and no bit
-abbrev says : ℕ → List ℕ → Seen
-says number buffer = record { number = number; buffer = buffer; charge = false; discharge = false; decision = 0; balancing = 0 }
-
--- the n-th answer's number, and a byte of its reply
-abbrev numberAt : ℕ → List Seen → ℕ
-numberAt n answers = getD answers n (says 0 []) .number
-
-abbrev byteAt : ℕ → ℕ → List Seen → ℕ
-byteAt n i answers = getD (getD answers n (says 0 []) .buffer) i 0
 
 -- ---- everything is accepted, and the buffer left as it was lent
 
@@ -197,16 +171,11 @@ keeps b handover = (b, seen (record { number = handoverOf b .number; board = b }
 abbrev pub keeping : Behaviour
 keeping = record { State = Board; start = startBoard; started = board .started; step = keeps }
 
--- a quiet tick, with or without the charger
-abbrev rides : Bool → Call
-rides charger =
-    tick (replicate 4 37000) (record { current = pos 0; internal = pos 200; external1 = pos 200; external2 = pos 200; pulses = 0; charger = charger; ignition = false })
-
 -- of two riders one had a charger: the next rider's list of events says which
 pub keeping-fails : ¬ Demand3 keeping
 unfolding accounted
 keeping-fails h =
-    let e = h 4 2000 (rides true ∷ []) (rides false ∷ []) (events ∷ []) (inr (record { settings = refl; clock = refl; latched = refl; waits = refl })) in
+    let e = h 4 2000 (flow (pos 0) 0 true ∷ []) (still ∷ []) (events ∷ []) (inr (record { settings = refl; clock = refl; latched = refl; waits = refl })) in
     let z : _≡_ {A = ℕ} 8 4 = ap (byteAt 1 2) e in
     omega arith
 
@@ -224,8 +193,8 @@ lingering = record { State = Board; start = startBoard; started = board .started
 pub lingering-fails : ¬ Demand3 lingering
 unfolding accounted
 lingering-fails h =
-    let e = h 4 2000 (rides true ∷ []) (rides false ∷ []) [] (inr (record { settings = refl; clock = refl; latched = refl; waits = refl })) in
-    let z : true ≡ false = ap (λ (answers : List Seen). getD answers 0 (says 0 []) .charge) e in
+    let e = h 4 2000 (flow (pos 0) 0 true ∷ []) (still ∷ []) [] (inr (record { settings = refl; clock = refl; latched = refl; waits = refl })) in
+    let z : true ≡ false = ap (λ (answers : List Seen). answerAt 0 answers .charge) e in
     absurd (false≢true (sym z))
 
 -- ---- a write is accepted, and not kept
@@ -235,10 +204,28 @@ drops b (tick cells r) = step b (tick cells r)
 drops b (frame s room) = (b, step b (frame s room) .1)
 drops b handover = step b handover
 
--- 800 was written to register 316, and it shows 2900 still
-pub dropping-fails : ¬ ReadsBack drops
+abbrev pub dropping : Behaviour
+dropping = record { State = Board; start = startBoard; started = board .started; step = drops }
+
+typed : Typed (to-800 ∷ [])
+typed = ((omega arith, (omega arith, (omega arith, (omega arith, (omega arith, (omega arith, (omega arith, (omega arith, (omega arith, (omega arith, (omega arith, tt))))))))))), tt)
+
+-- 316 was written to 800, and reads 2900 still: by 0x03, and in the current settings of 0x1D
+pub dropping-fails : ¬ ReadsBack dropping
 unfolding accounted
 dropping-fails h =
-    let bytes : TypedCall written = (omega arith, (omega arith, (omega arith, (omega arith, (omega arith, (omega arith, (omega arith, (omega arith, (omega arith, (omega arith, (omega arith, tt))))))))))) in
-    let z : _≡_ {A = ℕ} 2900 800 = ap valueOf (h 4 2000 (written ∷ []) (bytes, tt) 316 (omega arith) (omega arith)) in
+    let z : _≡_ {A = ℕ} 0x0B 0x03 = ap (λ (l : List ℕ). getD l 3 0) (h .block 4 2000 (to-800 ∷ []) typed (0xAA ∷ 0x03 ∷ 0x01 ∷ 0x3C ∷ 0x00 ∷ 0x01 ∷ 0x5C ∷ 0x21 ∷ []) 259 316 1 refl (omega arith) (omega arith) refl) in
+    omega arith
+
+pub factory-is-sent : ¬ ReadsBack dropping
+unfolding accounted
+factory-is-sent h =
+    let z : _≡_ {A = ℕ} 0x54 0x20 = ap (λ (l : List ℕ). getD l 35 0) (h .current 4 2000 (to-800 ∷ []) typed (0xAA ∷ 0x1D ∷ 0x04 ∷ 0x00 ∷ 0x64 ∷ 0x7A ∷ 0x5E ∷ []) 259 100 refl refl) in
+    omega arith
+
+-- and the handover that does nothing: twenty pulses of the last rider read as 0.01 km
+pub distance-kept : ¬ ReadsBack keeping
+unfolding accounted distanceAt
+distance-kept h =
+    let z : _≡_ {A = ℕ} 1 0 = ap (λ (l : List ℕ). getD l 4 0) (h .distance 4 2000 (flow (pos 0) 20 false ∷ handover ∷ []) (omega arith) (0xAA ∷ 0x03 ∷ 0x00 ∷ 0x64 ∷ 0x00 ∷ 0x02 ∷ 0x9C ∷ 0x0F ∷ []) 259 refl refl) in
     omega arith
