@@ -1,11 +1,11 @@
 -- W-206. Registers 40 and 41, and commands 0x16 and 0x17, round to the nearest mV; protections, statistics and balancing are unchanged. Beside our
--- board stands the one that rounds down, as document 01 had it: from any start and through any calls both are in one state (settings, latches,
--- waits, events, statistics, bits, switches), give the same numbers, switches and bits, and the same replies, but for the words of registers 40 and
--- 41. Why: the state keeps cells in 0.1 mV, and only a reply rounds.
+-- board stands the one that rounds down, as document 01 had it: worked out from the history of its calls, whose cells are in 0.1 mV. From any start
+-- and through any calls both are in one state (settings, latches, waits, events, statistics, bits, switches), give the same numbers, switches and
+-- bits, and the same replies, but for the words of registers 40 and 41. Why: demand 2 says what our state is by the same history, and only a reply rounds.
 -- Assumes nothing.
 use mathlib.Core.Path.{_≡_, refl, sym, ap, _∙_, subst⁻¹}
 use mathlib.Core.Bool.{Bool, true, false, _&&_, cond}
-use mathlib.Core.List.{List, [], _∷_, _++_}
+use mathlib.Core.List.{List, [], _∷_, _++_, reverse, reverseAux}
 use Prim.Native.Nat.{ℕ, zero, suc, _+_, _*_, _/_, _≤_, _<_}
 use native.Mathlib.Omega.{arith}
 use borrow.Author.Tests.{ne-eqb, eqb-true, eqb-false, leb-true}
@@ -20,6 +20,7 @@ use Rattle.requests.specs.declared.Request.the-variants as request
 use Rattle.requests.specs.Requests.{commandOf, requestOf}
 use Rattle.requests.proofs.Sound.{registersOf}
 use Rattle.pack.specs.declared.Pack.{Pack}
+use Rattle.pack.specs.Pack.{usableCount}
 use Rattle.hire.specs.Hire.{newHire}
 use Rattle.hire.specs.Registers.{liveRegister}
 use Rattle.board.specs.declared.Board.{Board}
@@ -30,6 +31,9 @@ use Rattle.board.specs.Registers.{shownAt}
 use Rattle.board.specs.Frames.{valueAt, bodyBy, tooLong, queryReply, requestReply, frameReply}
 use Rattle.board.specs.Calls.{Call, Seen, tick, frame, handover, step}
 use Rattle.board.specs.Behaviour.{Behaviour, board, afterIn}
+use Rattle.board.specs.Account.{boardAt, deedsOf}
+use Rattle.board.specs.Demands.{told}
+use Rattle.board.proofs.Demands.Demand2.{account, as-told}
 use Rattle.wire.proofs.Writing.{words-length}
 use Rattle.facts.proofs.ReadsBack.{words-same}
 
@@ -39,7 +43,7 @@ use Rattle.facts.proofs.ReadsBack.{words-same}
 abbrev pub valueDown : Board → ℕ → ℕ
 valueDown b at = cond (eqb at 40) (b .hire .sensed .extremes .lowest / 10) (cond (eqb at 41) (b .hire .sensed .extremes .highest / 10) (valueAt b at))
 
--- a reply with those registers; all else as ours
+-- a reply with those registers; all else as document 01 still has it
 unfoldable pub requestDown : Board → List ℕ → Request → List ℕ
 requestDown b s (request.Refused refusal) = requestReply b s (request.Refused refusal)
 requestDown b s request.ClearEvents = requestReply b s request.ClearEvents
@@ -55,24 +59,31 @@ bufferDown b (tick cells r) = []
 bufferDown b (frame s room) = replyDown b s room
 bufferDown b handover = []
 
+-- its state is the start numbers and the calls so far, newest first; the board that the paper works out from them
+abbrev pub History : Type 0
+History = ℕ × ℕ × List Call
+
+abbrev pub boardIn : History → Board
+boardIn h = boardAt (h .0) (h .1) (deedsOf (h .0) (h .1) (h .2))
+
+-- and it shows what the paper tells, with its own buffer
+abbrev pub shownDown : History → Call → Seen
+shownDown h c =
+    let a = told (h .0) (h .1) (h .2) c in
+    record { number = a .number; buffer = bufferDown (boardIn h) c; charge = a .charge; discharge = a .discharge; decision = a .decision; balancing = a .balancing }
+
 abbrev pub roundingDown : Behaviour
 roundingDown =
     record {
-      State = Board;
-      start = startBoard;
-      started = board .started;
-      step = λ b c. (step b c .0, record { number = step b c .1 .number; buffer = bufferDown b c; charge = step b c .1 .charge; discharge = step b c .1 .discharge; decision = step b c .1 .decision; balancing = step b c .1 .balancing });
+      State = History;
+      start = λ cells perKm. (cells, perKm, []);
+      started = λ cells perKm. cond (usableCount cells) 0 21;
+      step = λ h c. ((h .0, h .1, c ∷ h .2), shownDown h c);
     }
 
 -- ---- unchanged
 
--- the state, through any calls
-pub same-state : (b : Board) (cs : List Call) → afterIn roundingDown b cs ≡ afterIn board b cs
-unfolding afterIn
-same-state b [] = refl
-same-state b (c ∷ cs) = same-state (step b c .0) cs
-
--- the number, the switches and the bits of each call
+-- the number, the switches and the bits of a call
 pub record Shows (a d : Seen) : Type 0 where
   pub number : a .number ≡ d .number
   pub charge : a .charge ≡ d .charge
@@ -80,8 +91,29 @@ pub record Shows (a d : Seen) : Type 0 where
   pub decision : a .decision ≡ d .decision
   pub balancing : a .balancing ≡ d .balancing
 
-pub same-shown : (b : Board) (c : Call) → Shows (board .step b c .1) (roundingDown .step b c .1)
-same-shown b c = record { number = refl; charge = refl; discharge = refl; decision = refl; balancing = refl }
+remembered : (cells perKm : ℕ) (h cs : List Call) → afterIn roundingDown (cells, perKm, h) cs ≡ (cells, perKm, reverseAux cs h)
+unfolding afterIn
+remembered cells perKm h [] = refl
+remembered cells perKm h (c ∷ cs) = remembered cells perKm (c ∷ h) cs
+
+module _ (cells perKm : ℕ) (cs : List Call) where
+  abbrev ours : Board
+  ours = afterIn board (startBoard cells perKm) cs
+
+  abbrev theirs : History
+  theirs = afterIn roundingDown (roundingDown .start cells perKm) cs
+
+  -- the state, through any calls: settings, latches, waits, events, statistics, bits, switches
+  pub same-state : ours ≡ boardIn theirs
+  same-state = account cells perKm cs ∙ sym (ap boardIn (remembered cells perKm [] cs))
+
+  -- what is shown at the next
+  pub same-shown : (c : Call) → Shows (board .step ours c .1) (roundingDown .step theirs c .1)
+  same-shown c =
+      subst⁻¹ (λ (h : History). Shows (step ours c .1) (shownDown h c)) (remembered cells perKm [] cs)
+      (subst⁻¹ (λ (b : Board). Shows (step b c .1) (shownDown (cells, perKm, reverse cs) c)) (account cells perKm cs)
+      (subst⁻¹ (λ (a : Seen). Shows a (shownDown (cells, perKm, reverse cs) c)) (as-told cells perKm (reverse cs) c)
+      (record { number = refl; charge = refl; discharge = refl; decision = refl; balancing = refl })))
 
 -- every register but 40 and 41
 pub same-value : (b : Board) (at : ℕ) → (at ≡ 40 → ⊥) → (at ≡ 41 → ⊥) → valueDown b at ≡ valueAt b at
@@ -130,9 +162,9 @@ same-body b Cells few away =
     (words-same le16 (valueDown b) (valueAt b) 0 (b .pack .cells) (λ i k. same-value b (0 + i) (λ e. omega arith) (λ e. omega arith)))
 same-body b (SettingsOf kind n) few away = refl
 
-pub same-reply : (b : Board) (s : List ℕ) (room : ℕ) → ((q : Query) → requestOf s ≡ request.Read q → Neither q) → replyDown b s room ≡ frameReply b s room
+same-reply-of : (b : Board) (s : List ℕ) (room : ℕ) → ((q : Query) → requestOf s ≡ request.Read q → Neither q) → replyDown b s room ≡ frameReply b s room
 unfolding replyDown frameReply requestDown requestReply queryReply
-same-reply b s room away = go (leb 4 (b .pack .cells)) (leb (b .pack .cells) 16) refl (ltb room 259)
+same-reply-of b s room away = go (leb 4 (b .pack .cells)) (leb (b .pack .cells) 16) refl (ltb room 259)
   where
     same : b .pack .cells ≤ 16 → (q : Request) → requestOf s ≡ q → requestDown b s q ≡ requestReply b s q
     same few (request.Refused refusal) e = refl
@@ -147,6 +179,12 @@ same-reply b s room away = go (leb 4 (b .pack .cells)) (leb (b .pack .cells) 16)
     go true false e t = refl
     go true true e true = refl
     go true true e false = ap (padded room) (same (leb-true (b .pack .cells) 16 e) (requestOf s) refl)
+
+pub same-reply : (cells perKm : ℕ) (cs : List Call) (s : List ℕ) (room : ℕ) → ((q : Query) → requestOf s ≡ request.Read q → Neither q)
+    → board .step (ours cells perKm cs) (frame s room) .1 .buffer ≡ roundingDown .step (theirs cells perKm cs) (frame s room) .1 .buffer
+unfolding step bufferDown
+same-reply cells perKm cs s room away =
+    sym (same-reply-of (ours cells perKm cs) s room away) ∙ ap (λ (b : Board). replyDown b s room) (same-state cells perKm cs)
 
 -- ---- 0 before the first tick and after a handover, as before
 

@@ -36,7 +36,7 @@ module _ (cells perKm : ℕ) where
   seen-after b (frame s room) = refl
   seen-after b handover = refl
 
-  as-told : (h : List Call) (c : Call) → step (boardAt cells perKm (deedsOf cells perKm h)) c .1 ≡ told cells perKm h c
+  pub as-told : (h : List Call) (c : Call) → step (boardAt cells perKm (deedsOf cells perKm h)) c .1 ≡ told cells perKm h c
   unfolding told
   as-told h c =
       let b = boardAt cells perKm (deedsOf cells perKm h) in
