@@ -17,7 +17,7 @@ use Rattle.guard.proofs.Account.{hot-next}
 use Rattle.guard.proofs.Calm.{Recovered, Idle, recovered, idle}
 
 -- every wait is at most 300 ticks
-pub Bounded : List Moment → Type 0
+unfoldable pub Bounded : List Moment → Type 0
 Bounded [] = Unit {0}
 Bounded (m ∷ ms) = (waitOf m ≤ 300) × Bounded ms
 
