@@ -1,5 +1,5 @@
-// The seven conditions that the board guards against: what holds, what recovers, what is latched and for how long, and which
-// switches and events each names.
+// The seven conditions that the board guards against: what holds, what recovers, what is latched and for how long, which sensors
+// are remembered meanwhile, and which switches and events each names.
 ghost use mathlib.Core.Path.{_≡_};
 ghost use Prim.Native.Nat.{_*_, _-_};
 ghost use lib.IntN.{pos, negℤ, _+ℤ_, _-ℤ_, _*ℤ_};
