@@ -76,6 +76,7 @@ struct board {
     uint32_t lifetime;                  /* seconds */
     uint8_t tenths;                     /* accepted ticks since the last whole second */
     uint8_t latched;                    /* the set of latched conditions */
+    uint8_t connected_since_OT;         /* the set of externals that W-204 remembers; empty while OT is not latched */
     uint16_t wait[LT];                  /* ticks left of the waits of DOC, COC and ROC; 0: none */
     /* Not kept. */
     struct readings readings;

@@ -9,12 +9,17 @@
 #define COUNT_OF(list) (sizeof(list) / sizeof(list)[0])
 #define PICK(script, list) (list)[between(script, 0, (int)COUNT_OF(list) - 1)]
 
+/* What a sensor is for some ticks of a run around OT. */
+enum heat { COOL, WARM, HOT, UNPLUGGED };
+
 struct script {
     uint64_t chance;
     struct board board;
     bool charger, ignition;
     int unstarted;              /* calls left before the first start may come */
     int quiet;                  /* ticks left of a quiet run */
+    int around_OT;              /* ticks left of a run around OT */
+    enum heat internal, external[2];    /* in that run */
     int reads_of_events;        /* one frame in so many is 0x11 */
     char line[LONGEST_LINE + 100];
     size_t length;
@@ -85,6 +90,7 @@ static void say_start(struct script *script)
         cells = PICK(script, wrong);
     say(script, "start %d %d", cells, one_in(script, 6) ? between(script, 0, 65535) : PICK(script, pulses));
     script->quiet = 0;
+    script->around_OT = 0;
     script->unstarted = 0;
     script->reads_of_events = one_in(script, 2) ? 12 : 300;
 }
@@ -183,6 +189,37 @@ static void press_temperatures(struct script *script, struct tick *tick)
         tick->internal = NOT_CONNECTED;
 }
 
+/* Hot is at or above 10*r319, cool is below 10*r319 - 50, as a quiet tick is, and warm lies between. */
+static int heat_up(struct script *script, enum heat heat, int quiet)
+{
+    const int limit = 10 * r(script, 319);
+    switch (heat) {
+    case WARM: return one_in(script, 2) ? limit - 50 : limit - 1;
+    case HOT: return limit + between(script, 0, 1);
+    case UNPLUGGED: return NOT_CONNECTED;
+    default: return quiet;
+    }
+}
+
+/* W-204: externals that are unplugged and plugged in again, hot, warm or cool, with OT latched and without. */
+static void press_plugs(struct script *script, struct tick *tick)
+{
+    static const enum heat internals[] = {COOL, COOL, COOL, COOL, WARM, HOT};
+    static const enum heat externals[] = {COOL, COOL, COOL, WARM, HOT, UNPLUGGED, UNPLUGGED};
+    if (one_in(script, 20)) {
+        tick->internal = NOT_CONNECTED;     /* refused, with both externals plugged in */
+        return;
+    }
+    if (one_in(script, 2))
+        script->internal = PICK(script, internals);
+    tick->internal = heat_up(script, script->internal, tick->internal);
+    for (int at = 0; at < 2; at++) {
+        if (one_in(script, 3))
+            script->external[at] = PICK(script, externals);
+        tick->external[at] = heat_up(script, script->external[at], tick->external[at]);
+    }
+}
+
 static void press_pulses(struct script *script, struct tick *tick)
 {
     static const int limits[] = {0, 1, 2, 39, 40, 399, 400, 400};
@@ -201,6 +238,9 @@ static void say_tick(struct script *script)
     make_quiet(script, &tick);
     if (script->quiet > 0) {
         script->quiet--;
+    } else if (script->around_OT > 0) {
+        script->around_OT--;
+        press_plugs(script, &tick);
     } else {
         if (one_in(script, 3))
             press_rounding(script, &tick);
@@ -537,12 +577,14 @@ static void say_call_without_board(struct script *script)
         say_frame(script);
 }
 
-/* A tick, now and then the first of a run of quiet ones. */
+/* A tick, now and then the first of a run of quiet ones or of one around OT. */
 static void say_next_tick(struct script *script)
 {
     static const int runs[] = {10, 12, 20, 30, 52, 60, 110, 302, 310};
     if (script->quiet == 0 && one_in(script, 100))
         script->quiet = PICK(script, runs);
+    if (script->quiet == 0 && script->around_OT == 0 && one_in(script, 200))
+        script->around_OT = between(script, 10, 60);
     say_tick(script);
 }
 

@@ -5,6 +5,7 @@ use Rattle.laws.specs.Fold.{shifted, packed}
 use Rattle.crc.specs.Crc as crc
 use Rattle.events.specs.Events as events
 use Rattle.guard.specs.Guard.{holdsOf, waitsOf, recoversOf, latchedOf, guardOf}
+use Rattle.guard.specs.Account.{latchedFrom, waitsFrom, rememberedFrom}
 use Rattle.guard.specs.Table.{is, chargeOff, dischargeOff, faulty, latchEvent, recoveryEvent, eventOf}
 use Rattle.live.specs.Live as live
 use Rattle.readings.specs.Readings as readings
@@ -24,7 +25,7 @@ use Rattle.requests.specs.Requests.{expectedOf, clearOf, blockOf, writeOf, kind
 use Rattle.board.specs.Frames.{valueAt, bodyBy, bodyOf, payloadOf, requestNumber, changedBy, requestBoard, refusalReply, writeReply, queryReply, requestReply, frameNumber, frameBoard, frameReply}
 use Rattle.board.specs.Calls.{step}
 use Rattle.board.specs.Behaviour.{afterIn, answersIn}
-use Rattle.board.specs.Account.{settingsAt, secondsAt, clockAt, latchedAt, waitsAt, sensedAt, windowAt, chargerAt, statusAt, decisionAt, balancingAt, chargeAt, dischargeAt, eventsAt, statisticsAt, boardAt, requestDeed, deedOf, deedsOf}
+use Rattle.board.specs.Account.{settingsAt, secondsAt, clockAt, latchedAt, waitsAt, rememberedAt, sensedAt, windowAt, chargerAt, statusAt, decisionAt, balancingAt, chargeAt, dischargeAt, eventsAt, statisticsAt, boardAt, requestDeed, deedOf, deedsOf}
 use Rattle.board.specs.Numbers.{against, long, rows, first, numberAt, replyBytes}
 use Rattle.board.specs.Demands.{told, toldAll}
 
@@ -37,5 +38,5 @@ unfolding shifted packed crc.crcOf crc.byteIn crc.times crc.shiftedOut events.la
 opened = tt
 
 unfoldable pub accounted : Unit {0}
-unfolding opened settingsAt secondsAt clockAt latchedAt waitsAt sensedAt windowAt chargerAt statusAt decisionAt balancingAt chargeAt dischargeAt eventsAt statisticsAt boardAt requestDeed deedOf deedsOf told toldAll against long rows first numberAt replyBytes hasLength
+unfolding opened latchedFrom waitsFrom rememberedFrom settingsAt secondsAt clockAt latchedAt waitsAt rememberedAt sensedAt windowAt chargerAt statusAt decisionAt balancingAt chargeAt dischargeAt eventsAt statisticsAt boardAt requestDeed deedOf deedsOf told toldAll against long rows first numberAt replyBytes hasLength
 accounted = tt

@@ -8,7 +8,7 @@ use Prim.Native.Nat.{ℕ, _+_, _*_, _-_, _/_, _%_, min}
 use lib.Dec.{eqb, leb, ltb}
 use lib.IntN.{ℤ, pos}
 use lib.ListN.{length}
-use Rattle.laws.specs.History.{never, since, from, each, largest, sum, count, headOr, newest, ago, latest, stands, waits}
+use Rattle.laws.specs.History.{never, since, from, each, largest, sum, count, headOr, some, newest, latest}
 use Rattle.cells.specs.Cells.{keptOf, extremesOf, sumOf, decisionOf}
 use Rattle.events.specs.declared.Event.{Event}
 use Rattle.events.specs.declared.Events.{Events}
@@ -17,7 +17,8 @@ use Rattle.guard.specs.declared.Conditions.{Conditions}
 use Rattle.guard.specs.declared.Condition.{Condition}
 use Rattle.guard.specs.declared.Condition.the-variants.{UV, OV, OT, DOC, COC, ROC, LT}
 use Rattle.guard.specs.declared.Waits.{Waits}
-use Rattle.guard.specs.Guard.{cellsHighEnough, cellsLowEnough, sensorsCool, externalsMild, holdsOf}
+use Rattle.guard.specs.declared.Remembered.{Remembered}
+use Rattle.guard.specs.Account.{Moment, latchedFrom, waitsFrom, rememberedFrom}
 use Rattle.guard.specs.Table.{chargeOff, dischargeOff, eventOf, latches}
 use Rattle.live.specs.Live.{liveOf}
 use Rattle.readings.specs.declared.Readings.{Readings}
@@ -130,13 +131,7 @@ secondsAt h = min 4294967295 (countAt h / 10)
 unfoldable pub clockAt : List Deed → Clock
 clockAt h = record { seconds = secondsAt h; tenths = min 42949672959 (countAt h) % 10 }
 
--- ---- conditions: latched and waits from when each held and recovered, with no timer
-
--- a tick, with the settings in force at it
-pub record Moment : Type 0 where
-  pub settings : Settings
-  pub cells : List ℕ
-  pub readings : Readings
+-- ---- conditions: latched, waits and remembered sensors from the ticks so far, each with the settings in force at it (crate `guard`, Account)
 
 abbrev pub momentOf : Settings → List ℕ × Readings → Moment
 momentOf s t = record { settings = s; cells = t .0; readings = t .1 }
@@ -148,32 +143,14 @@ moment (d ∷ h) = map (momentOf (settingsAt h)) (row d .ticks)
 abbrev pub momentsAt : List Deed → List Moment
 momentsAt h = each moment (since never h)
 
-abbrev pub holds : Moment → Conditions
-holds m = holdsOf (m .settings) (m .readings) (extremesOf (m .cells))
-
-abbrev pub waitOf : Moment → ℕ
-waitOf m = 10 * (m .settings .r332)
-
--- latched: it held at a tick, and no later one recovered it; with a wait: fewer ticks since it last held than the wait of that tick
 unfoldable pub latchedAt : List Deed → Conditions
-latchedAt h =
-    record {
-      uv = stands (λ m. holds m .uv) (λ m. cellsHighEnough (m .settings) (extremesOf (m .cells))) (momentsAt h);
-      ov = stands (λ m. holds m .ov) (λ m. cellsLowEnough (m .settings) (extremesOf (m .cells))) (momentsAt h);
-      ot = stands (λ m. holds m .ot) (λ m. sensorsCool (m .settings) (m .readings)) (momentsAt h);
-      doc = waits (λ m. holds m .doc) waitOf (momentsAt h);
-      coc = waits (λ m. holds m .coc) waitOf (momentsAt h);
-      roc = waits (λ m. holds m .roc) waitOf (momentsAt h);
-      lt = stands (λ m. holds m .lt) (λ m. externalsMild (m .settings) (m .readings)) (momentsAt h);
-    }
-
--- what is left: the wait of the tick at which it last held, less the ticks since
-abbrev pub leftOf : (Moment → Bool) → List Moment → ℕ
-leftOf held ms = sum (λ m. waitOf m - ago held ms) (newest held ms)
+latchedAt h = latchedFrom (momentsAt h)
 
 unfoldable pub waitsAt : List Deed → Waits
-waitsAt h =
-    record { doc = leftOf (λ m. holds m .doc) (momentsAt h); coc = leftOf (λ m. holds m .coc) (momentsAt h); roc = leftOf (λ m. holds m .roc) (momentsAt h) }
+waitsAt h = waitsFrom (momentsAt h)
+
+unfoldable pub rememberedAt : List Deed → Remembered
+rememberedAt h = rememberedFrom (momentsAt h)
 
 -- ---- since the handover: the last tick's readings, the pulses of the last ten, the charger
 
@@ -288,12 +265,8 @@ hottestOf [] = pos 0
 hottestOf (x ∷ []) = x
 hottestOf (x ∷ y ∷ ys) = higherOf (hottestOf (y ∷ ys)) x
 
-abbrev pub seenOf : List ℤ → Bool
-seenOf [] = false
-seenOf (x ∷ xs) = true
-
 abbrev pub temperaturesOf : List ℤ → Temperatures
-temperaturesOf ts = record { coldest = coldestOf ts; hottest = hottestOf ts; seen = seenOf ts }
+temperaturesOf ts = record { coldest = coldestOf ts; hottest = hottestOf ts; seen = some ts }
 
 -- the pulses since the clear
 abbrev pub pulsesAt : List Deed → ℕ
@@ -328,7 +301,7 @@ distanceAt perKm h = distanceOf (pulsesAt h) perKm
 unfoldable pub boardAt : ℕ → ℕ → List Deed → Board
 boardAt cells perKm h =
     record {
-      pack = record { settings = settingsAt h; guard = record { latched = latchedAt h; waits = waitsAt h }; clock = clockAt h; cells = cells; «per_km» = perKm };
+      pack = record { settings = settingsAt h; guard = record { latched = latchedAt h; waits = waitsAt h; remembered = rememberedAt h }; clock = clockAt h; cells = cells; «per_km» = perKm };
       hire =
           record {
             sensed = sensedAt h;

@@ -1,21 +1,20 @@
 -- The three demands, of any behaviour. None has a hypothesis but what demand 3 says of the two boards.
 -- Assumes nothing.
-use mathlib.Core.Bool.{Bool, true, _&&_, _||_, cond}
+use mathlib.Core.Bool.{true, _||_, cond}
 use mathlib.Core.Logic.{_⊎_}
 use mathlib.Core.List.{List, [], _∷_, reverse}
 use mathlib.Core.Path.{_≡_}
 use Prim.Native.Nat.{ℕ, _-_, _≤_}
 use lib.Dec.{eqb}
 use lib.ListN.{length, take, drop, getD, replicate}
-use Rattle.cells.specs.Cells.{extremesOf}
-use Rattle.guard.specs.Quiet.{quiet}
+use Rattle.guard.specs.Quiet.{allQuiet}
 use Rattle.pack.specs.Pack.{usableCount}
 use Rattle.board.specs.declared.Board.{Board}
 use Rattle.board.specs.Calls.{Call, Seen, tick, frame, handover, step}
 use Rattle.board.specs.Behaviour.{Behaviour, afterIn, answersIn}
 use Rattle.wire.specs.Wire.{sealed, padded, nackOf}
 use Rattle.board.specs.Numbers.{asked, numberAt, replyBytes}
-use Rattle.board.specs.Account.{Deed, Moment, boardAt, deedsOf, settingsAt, clockAt, countAt, latchedAt, waitsAt, momentsAt}
+use Rattle.board.specs.Account.{Deed, boardAt, deedsOf, settingsAt, clockAt, countAt, latchedAt, waitsAt, rememberedAt, momentsAt}
 
 -- the history of calls made in that order, and its deeds
 abbrev pub deeds : ℕ → ℕ → List Call → List Deed
@@ -75,11 +74,6 @@ Demand2 B = (cells perKm : ℕ) (cs : List Call) → answersIn B (B .start cells
 -- ---- Demand 3. Two boards that agree on what a handover keeps (or that went through 300 quiet ticks) answer everything alike ever
 -- after.
 
--- each of them is quiet
-abbrev pub allQuiet : List Moment → Bool
-allQuiet [] = true
-allQuiet (m ∷ ms) = quiet (m .settings) (m .readings) (extremesOf (m .cells)) && allQuiet ms
-
 -- the last n accepted ticks are quiet, and there are so many. Other calls and refused ticks may come between, since only accepted ticks
 -- are moments. (300 quiet ticks meet it: proofs/Demands/QuietTicks, quieted)
 abbrev pub Quieted : ℕ → List Deed → Type 0
@@ -92,12 +86,13 @@ pub record BothQuiet (n : ℕ) (h k : List Deed) : Type 0 where
   pub first : Quieted n h
   pub second : Quieted n k
 
--- second: equal settings, clock to its tenth, latched conditions and remaining waits
+-- second: equal settings, clock to its tenth, latched conditions, remaining waits and remembered sensors
 pub record SameKept (h k : List Deed) : Type 0 where
   pub settings : settingsAt h ≡ settingsAt k
   pub clock : clockAt h ≡ clockAt k
   pub latched : latchedAt h ≡ latchedAt k
   pub waits : waitsAt h ≡ waitsAt k
+  pub remembered : rememberedAt h ≡ rememberedAt k
 
 -- two boards whose histories agree so: from the handover on, any equal list of calls gets equal answers, refused calls included, for ever
 abbrev pub Alike : Behaviour → (List Deed → List Deed → Type 0) → Type 0
@@ -106,6 +101,6 @@ Alike B Agree =
     → Agree (deeds cells perKm xs) (deeds cells perKm ys)
     → answersIn B (afterIn B (B .start cells perKm) xs) (handover ∷ zs) ≡ answersIn B (afterIn B (B .start cells perKm) ys) (handover ∷ zs)
 
--- (300, equal counts and equal waits are needed: crate `facts`, Needed)
+-- (300, equal counts, equal waits and equal memories are needed: crate `facts`, Needed)
 abbrev pub Demand3 : Behaviour → Type 0
 Demand3 B = Alike B (λ h k. BothQuiet 300 h k ⊎ SameKept h k)

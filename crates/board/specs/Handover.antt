@@ -1,6 +1,6 @@
 -- Handover. Events and the 0x11 mark, statistics, readings, speed window, charger presence and switches go to their start values;
 -- 116 takes the lifetime; status becomes 0x97 and the balancing bits 0. Kept: start numbers, settings, lifetime with its
--- tenths, latched conditions, waits. Nothing else may be kept.
+-- tenths, latched conditions, waits and, by W-204 of document 02, the sensors remembered. Nothing else may be kept.
 -- Assumes nothing.
 use mathlib.Core.Bool.{cond}
 use Rattle.pack.specs.Pack.{startNumber}

@@ -20,6 +20,14 @@ still = flow (pos 0) 0 false
 abbrev pub drawn : Call
 drawn = flow (negsuc 59999) 0 false
 
+-- level cells and no current, with those temperatures; a sensor that is not connected
+abbrev pub warmed : ℤ → ℤ → ℤ → Call
+warmed internal external1 external2 =
+    tick (replicate 4 37000) (record { current = pos 0; internal = internal; external1 = external1; external2 = external2; pulses = 0; charger = false; ignition = false })
+
+abbrev pub unplugged : ℤ
+unplugged = negsuc 32767
+
 -- ---- frames
 
 abbrev pub status : Call

@@ -25,6 +25,9 @@ use Rattle.laws.specs.History.{never, since, each, headOr, sum, newest, ago, la
 use Rattle.laws.proofs.Lists.{length-latest, sooner, timer, waited}
 use Rattle.cells.specs.Cells.{sumOf, lowestOf, highestOf}
 use Rattle.events.specs.Events.{capacity, noEvent, keptCount, newCount}
+use Rattle.guard.specs.Guard.{noneRemembered}
+use Rattle.guard.specs.Account.{Moment, holds, waitOf, leftOf, latchedFrom, waitsFrom}
+use Rattle.guard.proofs.Account.{empty-memory}
 use Rattle.guard.proofs.CellRows.{CellRows, cell-rows}
 use Rattle.live.specs.Live.{exact, quotient}
 use Rattle.readings.specs.declared.Readings.{Readings}
@@ -48,7 +51,7 @@ use Rattle.requests.specs.Requests.{inOneRange, requestOf, draftedOf, marks}
 use Rattle.board.specs.Calls.{Call, tick, frame, handover}
 use Rattle.board.specs.Behaviour.{afterIn, board}
 use Rattle.board.specs.Demands.{deeds}
-use Rattle.board.specs.Account.{Deed, took, wrote, sent, handed, nothing, row, forgets, hands, ticking, settingsAt, secondsAt, clockAt, Moment, momentOf, momentsAt, holds, waitOf, latchedAt, leftOf, waitsAt, sensedOf, sensedAt, windowAt, recordedNow, keptSince, newSince, eventsAt, boardAt, requestDeed, deedOf, deedsOf}
+use Rattle.board.specs.Account.{Deed, took, wrote, sent, handed, nothing, row, forgets, hands, ticking, settingsAt, secondsAt, clockAt, momentOf, momentsAt, latchedAt, waitsAt, rememberedAt, sensedOf, sensedAt, windowAt, recordedNow, keptSince, newSince, eventsAt, boardAt, requestDeed, deedOf, deedsOf}
 use Rattle.board.proofs.Account.Settings.{Fits, ranges, wait-some}
 use Rattle.requests.proofs.Sound.{registersOf, readsInRange, sound}
 use Rattle.board.proofs.Demands.Demand2.{account}
@@ -394,6 +397,8 @@ pub record Bounds (cells perKm : ℕ) (cs : List Call) (b : Board) : Type 0 wher
   pub doc : Wait (b .pack .guard .latched .doc) (b .pack .guard .waits .doc)
   pub coc : Wait (b .pack .guard .latched .coc) (b .pack .guard .waits .coc)
   pub roc : Wait (b .pack .guard .latched .roc) (b .pack .guard .waits .roc)
+  -- while OT is not latched the memory is empty
+  pub memory : b .pack .guard .latched .ot ≡ false → b .pack .guard .remembered ≡ noneRemembered
   -- 2^24 of `exact` in the speed
   pub window : length (b .hire .window) ≡ 10
   pub counts : All (λ p. p ≤ 400) (b .hire .window)
@@ -431,7 +436,7 @@ module _ (cells perKm : ℕ) (cs : List Call) where
   window-length = length-latest 10 0 (map (λ t. t .1 .pulses) (ticksSince hands made))
 
   made-bounds : Bounds cells perKm cs (boardAt cells perKm made)
-  unfolding boardAt eventsAt clockAt secondsAt latchedAt waitsAt
+  unfolding boardAt eventsAt clockAt secondsAt latchedFrom waitsFrom latchedAt waitsAt rememberedAt
   made-bounds =
       let older = sooner forgets (λ d. row d .sends) recordedNow made in
       let all : length (keptSince made) ≡ length (newSince made) + length (older .0) = ap length (older .1) ∙ length-append (newSince made) (older .0) in
@@ -453,6 +458,7 @@ module _ (cells perKm : ℕ) (cs : List Call) where
         doc = wait-held (λ m. holds m .doc) (momentsAt made) short;
         coc = wait-held (λ m. holds m .coc) (momentsAt made) short;
         roc = wait-held (λ m. holds m .roc) (momentsAt made) short;
+        memory = empty-memory (momentsAt made);
         window = ten;
         counts = window-held;
         second = omega arith;

@@ -4,6 +4,7 @@ pub mod BoundaryTable
 pub mod Calls
 pub mod WrongBoards
 pub mod Needed
+pub mod Unplugged
 pub mod Invariants
 pub mod ReadsBack
 pub mod Rounding

@@ -175,7 +175,7 @@ keeping = record { State = Board; start = startBoard; started = board .started; 
 pub keeping-fails : ¬ Demand3 keeping
 unfolding accounted
 keeping-fails h =
-    let e = h 4 2000 (flow (pos 0) 0 true ∷ []) (still ∷ []) (events ∷ []) (inr (record { settings = refl; clock = refl; latched = refl; waits = refl })) in
+    let e = h 4 2000 (flow (pos 0) 0 true ∷ []) (still ∷ []) (events ∷ []) (inr (record { settings = refl; clock = refl; latched = refl; waits = refl; remembered = refl })) in
     let z : _≡_ {A = ℕ} 8 4 = ap (byteAt 1 2) e in
     omega arith
 
@@ -193,7 +193,7 @@ lingering = record { State = Board; start = startBoard; started = board .started
 pub lingering-fails : ¬ Demand3 lingering
 unfolding accounted
 lingering-fails h =
-    let e = h 4 2000 (flow (pos 0) 0 true ∷ []) (still ∷ []) [] (inr (record { settings = refl; clock = refl; latched = refl; waits = refl })) in
+    let e = h 4 2000 (flow (pos 0) 0 true ∷ []) (still ∷ []) [] (inr (record { settings = refl; clock = refl; latched = refl; waits = refl; remembered = refl })) in
     let z : true ≡ false = ap (λ (answers : List Seen). answerAt 0 answers .charge) e in
     absurd (false≢true (sym z))
 

@@ -1,8 +1,8 @@
 -- A quiet tick recovers UV, OV, OT and LT, and none of the seven conditions holds at it: what recovers a condition excludes that it
 -- holds, for all values.
 -- Assumes nothing.
-use mathlib.Core.Path.{_≡_, refl, sym, subst}
-use mathlib.Core.Bool.{Bool, true, false, _&&_, _||_, not, cond, and-eq-true-iff}
+use mathlib.Core.Path.{_≡_, refl, sym, ap₂, subst}
+use mathlib.Core.Bool.{Bool, true, false, _&&_, _||_, not, cond, and-eq-true-iff, or-true}
 use mathlib.Core.List.{List, [], _∷_}
 use Prim.Native.Nat.{ℕ, suc, _+_, _*_, _-_}
 use native.Mathlib.Omega.{arith}
@@ -16,8 +16,9 @@ use Rattle.readings.specs.declared.Readings.{Readings}
 use Rattle.readings.specs.Readings.{connected}
 use Rattle.guard.specs.declared.Conditions.{Conditions}
 use Rattle.guard.specs.declared.Waits.{Waits}
-use Rattle.guard.specs.Guard.{cellTooLow, cellsHighEnough, cellTooHigh, cellsLowEnough, hot, cool, cold, mild, someExternal, allExternals, sensorHot, sensorsCool, externalCold, externalsMild, holdsOf, recoversOf}
-use Rattle.guard.specs.Quiet.{quiet}
+use Rattle.guard.specs.declared.Remembered.{Remembered}
+use Rattle.guard.specs.Guard.{cellTooLow, cellsHighEnough, cellTooHigh, cellsLowEnough, hot, cool, cold, mild, someExternal, allExternals, sensorHot, rememberedCool, externalCold, externalsMild, holdsOf, recoversOf}
+use Rattle.guard.specs.Quiet.{quiet, sensorsCool}
 
 -- ---- what recovers a condition excludes that it holds
 
@@ -75,6 +76,18 @@ all-mild-none-cold s r h =
     let p = and-eq-true-iff (connected (r .external1) || connected (r .external2)) (allExternals (mild s) r) .0 h in
     none (mild s) (cold s) (mild-not-cold s) r (p .1)
 
+-- where both externals are connected and all are cool, each that may be remembered is connected and cool
+pub all-cool-again : (s : Settings) (r : Readings) (m : Remembered) → connected (r .external1) ≡ true → connected (r .external2) ≡ true → sensorsCool s r ≡ true → rememberedCool s r m ≡ true
+all-cool-again s r m e f h =
+    let p = and-eq-true-iff (cool s (r .internal)) (allExternals (cool s) r) .0 h in
+    let q = and-eq-true-iff (not (connected (r .external1)) || cool s (r .external1)) (not (connected (r .external2)) || cool s (r .external2)) .0 (p .1) in
+    ap₂ _&&_ (p .0) (ap₂ _&&_ (one (m .external1) _ _ e (q .0)) (one (m .external2) _ _ f (q .1)))
+  where
+    one : (m c t : Bool) → c ≡ true → (not c || t) ≡ true → (not m || c && t) ≡ true
+    one m true true e f = or-true (not m)
+    one m true false e f = absurd (let z : _≡_ {A = ℕ} 0 1 = cc in omega arith)
+    one m false t e f = absurd (let z : _≡_ {A = ℕ} 0 1 = cc in omega arith)
+
 -- ---- a quiet tick
 
 -- the parts of a conjunction
@@ -114,18 +127,20 @@ asked s r e =
     connected (r .external2) ∷ cellsHighEnough s e ∷ cellsLowEnough s e ∷ sensorsCool s r ∷ externalsMild s r ∷ not (holdsOf s r e .doc) ∷ not (holdsOf s r e .coc) ∷ not (holdsOf s r e .roc) ∷ []
 
 module _ (s : Settings) (r : Readings) (e : Extremes) (q : quiet s r e ≡ true) where
-  parts : Each (asked s r e)
+  parts : (connected (r .external1) ≡ true) × Each (asked s r e)
   unfolding quiet all asked
-  parts = each (connected (r .external1)) (asked s r e) q .1
+  parts = each (connected (r .external1)) (asked s r e) q
 
-  pub recovered : (left : Waits) → Recovered (recoversOf s r e left)
+  pub recovered : (left : Waits) (m : Remembered) → Recovered (recoversOf s r e left m)
   unfolding recoversOf Each asked
-  recovered left = let p = parts .1 in record { uv = p .0; ov = p .1 .0; ot = p .1 .1 .0; lt = p .1 .1 .1 .0 }
+  recovered left m =
+      let p = parts .1 .1 in
+      record { uv = p .0; ov = p .1 .0; ot = all-cool-again s r m (parts .0) (parts .1 .0) (p .1 .1 .0); lt = p .1 .1 .1 .0 }
 
   pub idle : Idle (holdsOf s r e)
   unfolding holdsOf Each asked
   idle =
-      let p = parts .1 in
+      let p = parts .1 .1 in
       let none-of = p .1 .1 .1 .1 in
       record {
         uv = high-not-low s e (p .0);

@@ -1,5 +1,7 @@
 pub mod Limits
 pub mod Told
 pub mod Switches
-pub mod Calm
 pub mod CellRows
+pub mod Account
+pub mod Calm
+pub mod QuietTicks

@@ -1,4 +1,5 @@
--- The seven conditions, in the order of document 01's table: what holds, what recovers, and what is latched after a tick.
+-- The seven conditions, in the order of document 01's table: what holds, what recovers, and what is latched after a tick. OT recovers by
+-- W-204 of document 02.
 -- The cells enter by their lowest and highest; proofs/CellRows shows that the rows UV and OV then say what they say of all cells.
 -- Assumes nothing.
 use mathlib.Core.Bool.{Bool, false, _&&_, _||_, not, cond}
@@ -12,6 +13,7 @@ use Rattle.readings.specs.declared.Readings.{Readings}
 use Rattle.readings.specs.Readings.{connected}
 use Rattle.guard.specs.declared.Conditions.{Conditions}
 use Rattle.guard.specs.declared.Waits.{Waits}
+use Rattle.guard.specs.declared.Remembered.{Remembered}
 use Rattle.guard.specs.declared.Guard.{Guard}
 
 -- UV holds: a cell ≤ 10·r316; recovers: all cells > 10·r316
@@ -49,12 +51,22 @@ someExternal test r = connected (r .external1) && test (r .external1) || connect
 abbrev pub allExternals : (ℤ → Bool) → Readings → Bool
 allExternals test r = (not (connected (r .external1)) || test (r .external1)) && (not (connected (r .external2)) || test (r .external2))
 
--- OT holds: a connected sensor ≥ 10·r319; recovers: all connected < 10·r319 - 50. The internal one is always connected
+-- OT holds: a connected sensor ≥ 10·r319. The internal one is always connected
 abbrev pub sensorHot : Settings → Readings → Bool
 sensorHot s r = hot s (r .internal) || someExternal (hot s) r
 
-abbrev pub sensorsCool : Settings → Readings → Bool
-sensorsCool s r = cool s (r .internal) && allExternals (cool s) r
+-- the board remembers which sensors have been connected at any tick since OT latched: those of this tick join
+abbrev pub withConnected : Remembered → Readings → Remembered
+withConnected m r = record { external1 = connected (r .external1) || m .external1; external2 = connected (r .external2) || m .external2 }
+
+-- OT recovers: each of those is connected and < 10·r319 - 50
+abbrev pub rememberedCool : Settings → Readings → Remembered → Bool
+rememberedCool s r m =
+    cool s (r .internal) && ((not (m .external1) || connected (r .external1) && cool s (r .external1)) && (not (m .external2) || connected (r .external2) && cool s (r .external2)))
+
+-- the memory is emptied at recovery
+abbrev pub whileLatched : Bool → Remembered → Remembered
+whileLatched latched m = record { external1 = latched && m .external1; external2 = latched && m .external2 }
 
 -- LT holds: a connected external ≤ 10·r320; recovers: an external connected, all such > 10·r320 + 50
 abbrev pub externalCold : Settings → Readings → Bool
@@ -92,13 +104,14 @@ unfoldable pub waitsOf : Settings → Conditions → Waits → Waits
 waitsOf s holds w =
     record { doc = waitOf s (holds .doc) (w .doc); coc = waitOf s (holds .coc) (w .coc); roc = waitOf s (holds .roc) (w .roc) }
 
--- the column 'Recovers', with the waits that are left after this tick; a wait is over when nothing is left of it
-unfoldable pub recoversOf : Settings → Readings → Extremes → Waits → Conditions
-recoversOf s r e left =
+-- the column 'Recovers', with the waits that are left after this tick and the sensors remembered with it; a wait is over when nothing is
+-- left of it
+unfoldable pub recoversOf : Settings → Readings → Extremes → Waits → Remembered → Conditions
+recoversOf s r e left m =
     record {
       uv = cellsHighEnough s e;
       ov = cellsLowEnough s e;
-      ot = sensorsCool s r;
+      ot = rememberedCool s r m;
       doc = eqb (left .doc) 0;
       coc = eqb (left .coc) 0;
       roc = eqb (left .roc) 0;
@@ -121,20 +134,30 @@ latchedOf l holds recovers =
       lt = latchOf (l .lt) (holds .lt) (recovers .lt);
     }
 
--- nothing latched, no wait
+-- nothing latched, no wait, no sensor remembered
 abbrev pub noConditions : Conditions
 noConditions = record { uv = false; ov = false; ot = false; doc = false; coc = false; roc = false; lt = false }
 
 abbrev pub noWaits : Waits
 noWaits = record { doc = 0; coc = 0; roc = 0 }
 
+abbrev pub noneRemembered : Remembered
+noneRemembered = record { external1 = false; external2 = false }
+
 abbrev pub noGuard : Guard
-noGuard = record { latched = noConditions; waits = noWaits }
+noGuard = record { latched = noConditions; waits = noWaits; remembered = noneRemembered }
 
 -- a tick of the guard
+abbrev pub waitsAfter : Guard → Settings → Readings → Extremes → Waits
+waitsAfter g s r e = waitsOf s (holdsOf s r e) (g .waits)
+
+abbrev pub latchedAfter : Guard → Settings → Readings → Extremes → Conditions
+latchedAfter g s r e = latchedOf (g .latched) (holdsOf s r e) (recoversOf s r e (waitsAfter g s r e) (withConnected (g .remembered) r))
+
 unfoldable pub guardOf : Guard → Settings → Readings → Extremes → Guard
 guardOf g s r e =
     record {
-      latched = latchedOf (g .latched) (holdsOf s r e) (recoversOf s r e (waitsOf s (holdsOf s r e) (g .waits)));
-      waits = waitsOf s (holdsOf s r e) (g .waits);
+      latched = latchedAfter g s r e;
+      waits = waitsAfter g s r e;
+      remembered = whileLatched (latchedAfter g s r e .ot) (withConnected (g .remembered) r);
     }

@@ -1,4 +1,5 @@
 pub mod Guard
 pub mod Table
+pub mod Account
 pub mod Quiet
 mod Facts

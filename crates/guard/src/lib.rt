@@ -1,9 +1,9 @@
-// The seven conditions that the board guards against: what holds, what recovers, what is latched and for how long, and which
-// switches and events each names.
+// The seven conditions that the board guards against: what holds, what recovers, what is latched and for how long, which sensors
+// are remembered meanwhile, and which switches and events each names.
 ghost use mathlib.Core.Path.{_≡_};
 ghost use Prim.Native.Nat.{_*_, _-_};
 ghost use lib.IntN.{pos, negℤ, _+ℤ_, _-ℤ_, _*ℤ_};
-ghost use Rattle.guard.specs.Guard.{cellsLowEnough, hot, cool, cold, mild, sensorHot, sensorsCool, externalCold, externalsMild};
+ghost use Rattle.guard.specs.Guard.{cellsLowEnough, hot, cool, cold, mild, sensorHot, withConnected, rememberedCool, whileLatched, externalCold, externalsMild};
 ghost use Rattle.guard.specs.Guard.{drawnTooMuch, fedTooMuch, holdsOf, waitOf, waitsOf, recoversOf, latchedOf, noGuard, guardOf};
 ghost use Rattle.guard.specs.Table.{is, chargeOff, dischargeOff, faulty, latchEvent, recoveryEvent, eventOf};
 use cells::Extremes;
@@ -45,9 +45,16 @@ pub struct Numbers {
     pub recovery: u8,
 }
 
+// Which externals were connected at any tick since OT latched; none while it is not latched. The internal sensor always is.
+pub struct Remembered {
+    pub external1: bool,
+    pub external2: bool,
+}
+
 pub struct Guard {
     pub latched: Conditions,
     pub waits: Waits,
+    pub remembered: Remembered,
 }
 
 impl Guard {
@@ -70,6 +77,10 @@ impl Guard {
                 coc: 0,
                 roc: 0,
             },
+            remembered: Remembered {
+                external1: false,
+                external2: false,
+            },
         }
     }
 
@@ -79,9 +90,14 @@ impl Guard {
     {
         let holds = holding(settings, readings, extremes);
         let waits = self.waits.next(settings, holds);
-        let recovers = recovering(settings, readings, extremes, waits);
+        let remembered = self.remembered.with_connected(readings);
+        let recovers = recovering(settings, readings, extremes, waits, remembered);
         let latched = self.latched.next(holds, recovers);
-        Guard { latched, waits }
+        Guard {
+            latched,
+            waits,
+            remembered: remembered.while_latched(latched.ot),
+        }
     }
 }
 
@@ -165,6 +181,30 @@ impl Waits {
     }
 }
 
+impl Remembered {
+    // With those that are connected at this tick.
+    fn with_connected(self, readings: Readings) -> Remembered
+        ensures { λ r. ⌜ r ≡ withConnected self readings ⌝ }
+    {
+        let first = readings::is_connected(readings.external1);
+        let second = readings::is_connected(readings.external2);
+        Remembered {
+            external1: first | self.external1,
+            external2: second | self.external2,
+        }
+    }
+
+    // Emptied at recovery.
+    fn while_latched(self, latched: bool) -> Remembered
+        ensures { λ r. ⌜ r ≡ whileLatched latched self ⌝ }
+    {
+        Remembered {
+            external1: latched & self.external1,
+            external2: latched & self.external2,
+        }
+    }
+}
+
 fn wait_left(settings: Settings, holds: bool, left: u32) -> u32
     ensures { λ r. ⌜ r ≡ waitOf settings holds left ⌝ }
 {
@@ -194,11 +234,17 @@ fn holding(settings: Settings, readings: Readings, extremes: Extremes) -> Condit
 }
 
 // The column 'Recovers'; a wait is over when nothing is left of it.
-fn recovering(settings: Settings, readings: Readings, extremes: Extremes, left: Waits) -> Conditions
-    ensures { λ r. ⌜ r ≡ recoversOf settings readings extremes left ⌝ }
+fn recovering(
+    settings: Settings,
+    readings: Readings,
+    extremes: Extremes,
+    left: Waits,
+    remembered: Remembered,
+) -> Conditions
+    ensures { λ r. ⌜ r ≡ recoversOf settings readings extremes left remembered ⌝ }
 {
     let ov = are_cells_low_enough(settings, extremes);
-    let ot = are_sensors_cool(settings, readings);
+    let ot = are_remembered_cool(settings, readings, remembered);
     let lt = are_externals_mild(settings, readings);
     Conditions {
         uv: 10 * (settings.r316 as u32) < (extremes.lowest as u32),
@@ -227,13 +273,14 @@ fn is_sensor_hot(settings: Settings, readings: Readings) -> bool
     internal | (first | second)
 }
 
-fn are_sensors_cool(settings: Settings, readings: Readings) -> bool
-    ensures { λ r. ⌜ r ≡ sensorsCool settings readings ⌝ }
+fn are_remembered_cool(settings: Settings, readings: Readings, remembered: Remembered) -> bool
+    ensures { λ r. ⌜ r ≡ rememberedCool settings readings remembered ⌝ }
 {
+    let one = readings::is_connected(readings.external1);
+    let two = readings::is_connected(readings.external2);
     let internal = is_cool(settings, readings.internal);
-    let first = !readings::is_connected(readings.external1) | is_cool(settings, readings.external1);
-    let second = !readings::is_connected(readings.external2)
-        | is_cool(settings, readings.external2);
+    let first = !remembered.external1 | (one & is_cool(settings, readings.external1));
+    let second = !remembered.external2 | (two & is_cool(settings, readings.external2));
     internal & (first & second)
 }
 

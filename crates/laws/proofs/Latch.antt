@@ -11,7 +11,7 @@ use lib.Dec.{ltb}
 use lib.ListN.{length}
 use Rattle.laws.specs.History.{any, upTo, newest, ago, stands, waits, Stands, Waits}
 
-wrong : {A : Type 0} → false ≡ true → A
+pub wrong : {A : Type 0} → false ≡ true → A
 wrong e = absurd (let z : _≡_ {A = ℕ} 0 1 = cc in omega arith)
 
 module _ {A : Type 0} where

@@ -4,3 +4,4 @@ pub mod Shift
 pub mod Copies
 pub mod Lists
 pub mod Latch
+pub mod Later

@@ -57,6 +57,19 @@ module _ {A : Type 0} where
   take-min n xs =
       min-cases n (length xs) _ (λ h e. ap (λ k. take k xs) e) (λ h e. ap (λ k. take k xs) e ∙ take-all (length xs) xs (omega arith) ∙ sym (take-all n xs h))
 
+-- ---- one of more
+
+module _ {A : Type 0} (p : A → Bool) where
+  pub any-of-more : (m n : ℕ) (xs : List A) → m ≤ n → any p (take m xs) ≡ true → any p (take n xs) ≡ true
+  any-of-more zero n xs h e = absurd (let z : _≡_ {A = ℕ} 0 1 = cc in omega arith)
+  any-of-more (suc m) zero xs h e = absurd (not-suc-le-zero h)
+  any-of-more (suc m) (suc n) [] h e = e
+  any-of-more (suc m) (suc n) (x ∷ xs) h e = go (p x) e (any-of-more m n xs (omega arith))
+    where
+      go : (b : Bool) → cond b true (any p (take m xs)) ≡ true → (any p (take m xs) ≡ true → any p (take n xs) ≡ true) → cond b true (any p (take n xs)) ≡ true
+      go true e i = refl
+      go false e i = i e
+
 -- ---- since either of two marks
 
 -- what is noted since the last of either kind is the newer part of what is noted since the last of one kind

@@ -1,11 +1,11 @@
 -- A history is a list, the newest first; a moment is the history up to it. What is shown at a moment is a function of it.
 -- Assumes nothing.
 use mathlib.Core.Path.{_≡_}
-use mathlib.Core.Bool.{Bool, true, false, cond}
+use mathlib.Core.Bool.{Bool, true, false, _&&_, _||_, not, cond}
 use mathlib.Core.List.{List, [], _∷_, _++_}
 use Prim.Native.Nat.{ℕ, zero, suc, _+_, _<_, max}
 use lib.Dec.{ltb}
-use lib.ListN.{length}
+use lib.ListN.{length, take}
 use Rattle.laws.specs.Fold.{bitOf}
 
 module _ {C : Type 0} where
@@ -48,6 +48,11 @@ module _ {A : Type 0} where
   headOr z [] = z
   headOr z (x ∷ xs) = x
 
+  -- is there one?
+  abbrev pub some : List A → Bool
+  some [] = false
+  some (x ∷ xs) = true
+
   -- does one of them pass?
   abbrev pub any : (A → Bool) → List A → Bool
   any p [] = false
@@ -82,6 +87,22 @@ module _ {A : Type 0} where
   abbrev pub waits : (A → Bool) → (A → ℕ) → List A → Bool
   waits holds wait ts = any (λ t. ltb (ago holds ts) (wait t)) (newest holds ts)
 
+  -- where a recovery asks of all ticks since it latched: it held at the oldest of these ticks, and at each later one it held or was not
+  -- recovered, by those up to then
+  abbrev pub unbroken : (A → Bool) → (List A → Bool) → List A → Bool
+  unbroken holds recovers [] = false
+  unbroken holds recovers (t ∷ []) = holds t
+  unbroken holds recovers (t ∷ u ∷ ts) = unbroken holds recovers (u ∷ ts) && (holds t || not (recovers (t ∷ u ∷ ts)))
+
+  -- the longest of the newest n, or fewer, that passes; none if none does
+  abbrev pub longest : (List A → Bool) → ℕ → List A → List A
+  longest p zero ts = []
+  longest p (suc n) ts = cond (p (take (suc n) ts)) (take (suc n) ts) (longest p n ts)
+
+  -- the ticks since it latched, that tick included; none if it is not latched. (A shorter stretch is one from a tick at which it held again)
+  abbrev pub sinceLatched : (A → Bool) → (List A → Bool) → List A → List A
+  sinceLatched holds recovers ts = longest (unbroken holds recovers) (length ts) ts
+
   -- the same in the words of the paper: a tick at which it held, such that no later tick recovered it
   pub record Stands (holds recovers : A → Bool) (ts : List A) : Type 0 where
     pub later : List A
@@ -100,6 +121,16 @@ module _ {A : Type 0} where
     pub held : holds tick ≡ true
     pub without : any holds later ≡ false
     pub few : length later < wait tick
+
+  -- the tick at which it latched: it held, and was not latched before. Those since, with it, are the ticks since it latched
+  pub record SinceLatched (holds : A → Bool) (recovers : List A → Bool) (ts : List A) : Type 0 where
+    pub later : List A
+    pub tick : A
+    pub earlier : List A
+    pub split : ts ≡ later ++ (tick ∷ earlier)
+    pub held : holds tick ≡ true
+    pub before : sinceLatched holds recovers earlier ≡ []
+    pub since : sinceLatched holds recovers ts ≡ later ++ (tick ∷ [])
 
 module _ {A S : Type 0} where
   -- the oldest first

@@ -1,4 +1,4 @@
--- The pack is all that a handover keeps: start numbers, settings, lifetime with its tenths, latched conditions, waits.
+-- The pack is all that a handover keeps: start numbers, settings, lifetime with its tenths, latched conditions, waits, remembered sensors.
 -- Assumes nothing.
 use mathlib.Core.Bool.{Bool, _&&_, cond}
 use Prim.Native.Nat.{ℕ, _+_}

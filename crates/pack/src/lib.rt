@@ -1,4 +1,5 @@
-// The pack: all that a handover keeps. Start numbers, settings, the lifetime with its tenths, latched conditions and waits.
+// The pack: all that a handover keeps. Start numbers, settings, the lifetime with its tenths, latched conditions, waits and
+// remembered sensors.
 ghost use mathlib.Core.Bool.{cond};
 ghost use mathlib.Core.Path.{_≡_};
 ghost use Rattle.pack.specs.Pack.{usable, newPack, laterOf, timeOf, conditionsOf, withSettings, startNumber, tickNumber};

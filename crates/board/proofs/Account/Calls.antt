@@ -36,7 +36,7 @@ use Rattle.board.specs.Handover.{handedOver, handoverOf}
 use Rattle.requests.specs.Requests.{requestOf, refusalNumber, draftedOf, marks}
 use Rattle.board.specs.Frames.{tooLong, payloadOf, markedBy, requestNumber, changedBy, requestBoard, frameBoard}
 use Rattle.board.specs.Calls.{Call, tick, frame, handover, step}
-use Rattle.board.specs.Account.{Deed, took, wrote, cleared, forgot, sent, handed, nothing, sensedOf, settingsAt, secondsAt, clockAt, latchedAt, waitsAt, sensedAt, windowAt, chargerAt, statusAt, decisionAt, balancingAt, chargeAt, dischargeAt, eventsAt, statisticsAt, boardAt, requestDeed, deedOf, deedsOf}
+use Rattle.board.specs.Account.{Deed, took, wrote, cleared, forgot, sent, handed, nothing, sensedOf, settingsAt, secondsAt, clockAt, latchedAt, waitsAt, rememberedAt, sensedAt, windowAt, chargerAt, statusAt, decisionAt, balancingAt, chargeAt, dischargeAt, eventsAt, statisticsAt, boardAt, requestDeed, deedOf, deedsOf}
 use Rattle.board.proofs.Opened.{steps}
 use Rattle.board.proofs.Account.Settings.{written, ranges, wait-some}
 use Rattle.board.proofs.Account.Tick.{guardAt, tickNoted, clock-next, guard-next, window-next, events-next, statistics-next}
@@ -119,7 +119,7 @@ module _ (cells perKm : ℕ) where
 
   -- ---- any deed
   goes : (d : Deed) (h : List Deed) → 1 ≤ settingsAt h .r332 → does (boardAt cells perKm h) d ≡ boardAt cells perKm (d ∷ h)
-  unfolding does boardAt settingsAt clockAt secondsAt latchedAt waitsAt sensedAt windowAt chargerAt statusAt decisionAt balancingAt chargeAt dischargeAt eventsAt statisticsAt handedOver newHire noEvents sentOf clearedAt
+  unfolding does boardAt settingsAt clockAt secondsAt latchedAt waitsAt rememberedAt sensedAt windowAt chargerAt statusAt decisionAt balancingAt chargeAt dischargeAt eventsAt statisticsAt handedOver newHire noEvents sentOf clearedAt
   goes (took given r) h some = ticked given r h some
   goes (wrote s from n) h some = ap (withSettings (boardAt cells perKm h)) (sym (written s from n h))
   goes cleared h some = refl

@@ -1,17 +1,17 @@
 -- One tick more: what the account of each part then says is what a tick makes of that part, by one law of lists for each kind of part.
 -- Assumes nothing.
 use mathlib.Core.Path.{_≡_, refl, sym, ap, _∙_}
-use mathlib.Core.Bool.{Bool, true, false, _&&_, _||_, not, cond, and-true, and-false, or-false}
+use mathlib.Core.Bool.{Bool, true, false, _&&_, _||_, not, cond, or-false}
 use mathlib.Core.List.{List, [], _∷_, _++_, map, append-nil, append-assoc}
 use Prim.Native.Nat.{ℕ, suc, _+_, _*_, _-_, _/_, _%_, _≤_, min, max}
 use native.Mathlib.Omega.{arith}
-use borrow.Author.Tests.{ltb-true, ltb-false, lt-ltb, eq-eqb, ne-eqb}
+use borrow.Author.Tests.{ltb-true, ltb-false}
 use lib.Dec.{eqb, ltb}
 use lib.IntN.{ℤ}
 use lib.ListN.{length}
 use Rattle.laws.specs.Fold.{bitOf, shifted}
-use Rattle.laws.specs.History.{since, from, each, sum, count, largest, any, upTo, newest, ago, latest, stands, waits, pour}
-use Rattle.laws.proofs.Lists.{pour-append, pushed, timer, waited}
+use Rattle.laws.specs.History.{since, from, each, count, largest, some, latest, pour}
+use Rattle.laws.proofs.Lists.{pour-append, pushed}
 use Rattle.cells.specs.Cells.{extremesOf}
 use Rattle.events.specs.declared.Event.{Event}
 use Rattle.events.specs.declared.Events.{Events}
@@ -20,8 +20,9 @@ use Rattle.guard.specs.declared.Conditions.{Conditions}
 use Rattle.guard.specs.declared.Condition.{Condition}
 use Rattle.guard.specs.declared.Condition.the-variants.{UV, OV, OT, DOC, COC, ROC, LT}
 use Rattle.guard.specs.declared.Guard.{Guard}
-use Rattle.guard.specs.Guard.{waitsOf, recoversOf, latchOf, latchedOf, guardOf, cellsHighEnough, cellsLowEnough, sensorsCool, externalsMild}
+use Rattle.guard.specs.Guard.{guardOf}
 use Rattle.guard.specs.Table.{is, eventOf}
+use Rattle.guard.proofs.Account as guard
 use Rattle.readings.specs.declared.Readings.{Readings}
 use Rattle.readings.specs.Readings.{connected}
 use Rattle.signed.specs.Signed.{above, below, lowerOf, higherOf}
@@ -30,7 +31,7 @@ use Rattle.statistics.specs.Statistics.{hundreds, countOf, countsOf, withExtern
 use Rattle.pack.specs.declared.Clock.{Clock}
 use Rattle.pack.specs.Pack.{laterOf}
 use Rattle.hire.specs.Tick.{chargerEvent}
-use Rattle.board.specs.Account.{Deed, took, clears, hands, ticking, Moment, momentOf, momentsAt, holds, waitOf, settingsAt, countAt, secondsAt, clockAt, latchedAt, waitsAt, windowAt, chargerAt, statusAt, someEvent, numbersOf, keptSince, newSince, eventsAt, latchings, entering, externals, coldestOf, hottestOf, seenOf, temperaturesOf, pulsesAt, statisticsAt}
+use Rattle.board.specs.Account.{Deed, took, clears, hands, ticking, momentOf, momentsAt, settingsAt, countAt, secondsAt, clockAt, latchedAt, waitsAt, rememberedAt, windowAt, chargerAt, statusAt, someEvent, numbersOf, keptSince, newSince, eventsAt, latchings, entering, externals, coldestOf, hottestOf, temperaturesOf, pulsesAt, statisticsAt}
 
 -- ---- time
 clock-same : {a b c d : ℕ} → a ≡ b → c ≡ d → _≡_ {A = Clock} (record { seconds = a; tenths = c }) (record { seconds = b; tenths = d })
@@ -55,69 +56,14 @@ pub clock-next : (cells : List ℕ) (r : Readings) (h : List Deed) → clockAt (
 unfolding clockAt secondsAt
 clock-next cells r h = later (countAt h)
 
--- ---- latches
-module _ {A : Type 0} (held : A → Bool) where
-  stands-next : (over : A → Bool) (t : A) (ts : List A) → stands held over (t ∷ ts) ≡ latchOf (stands held over ts) (held t) (over t)
-  stands-next over t ts = go (held t) (over t)
-    where
-      go : (a b : Bool) → cond a true (any held (cond b [] (upTo over ts))) ≡ latchOf (stands held over ts) a b
-      go true b = refl
-      go false true = sym (and-false (stands held over ts))
-      go false false = sym (and-true (stands held over ts))
-
-  module _ (wait : A → ℕ) where
-    abbrev left : List A → ℕ
-    left ts = sum (λ t. wait t - ago held ts) (newest held ts)
-
-    left-next : (t : A) (ts : List A) → left (t ∷ ts) ≡ cond (held t) (wait t) (left ts - 1)
-    left-next t ts = sym (timer held wait (t ∷ ts)) ∙ ap (λ n. cond (held t) (wait t) (n - 1)) (timer held wait ts)
-
-    left-waits : (ts : List A) → waits held wait ts ≡ ltb 0 (left ts)
-    left-waits ts = sym (waited held wait ts) ∙ ap (ltb 0) (timer held wait ts)
-
-    waits-next : (t : A) (ts : List A) → 1 ≤ wait t → waits held wait (t ∷ ts) ≡ latchOf (waits held wait ts) (held t) (eqb (cond (held t) (wait t) (left ts - 1)) 0)
-    waits-next t ts some =
-        left-waits (t ∷ ts) ∙ ap (ltb 0) (left-next t ts) ∙ go (held t) (left ts)
-        ∙ ap (λ b. latchOf b (held t) (eqb (cond (held t) (wait t) (left ts - 1)) 0)) (sym (left-waits ts))
-      where
-        some-left : (n : ℕ) (b : Bool) → ltb 0 (n - 1) ≡ b → b ≡ (ltb 0 n && not (eqb (n - 1) 0))
-        some-left n true e =
-            let l = ltb-true 0 (n - 1) e in
-            rw (lt-ltb 0 n (omega arith), ne-eqb (n - 1) 0 (λ z. omega arith)) refl
-        some-left n false e = rw (eq-eqb (n - 1) 0 (omega (arith, ltb-false))) (sym (and-false (ltb 0 n)))
-
-        go : (a : Bool) (n : ℕ) → ltb 0 (cond a (wait t) (n - 1)) ≡ latchOf (ltb 0 n) a (eqb (cond a (wait t) (n - 1)) 0)
-        go true n = lt-ltb 0 (wait t) some
-        go false n = some-left n (ltb 0 (n - 1)) refl
-
+-- ---- the guard
 abbrev pub guardAt : List Deed → Guard
-guardAt h = record { latched = latchedAt h; waits = waitsAt h }
+guardAt h = record { latched = latchedAt h; waits = waitsAt h; remembered = rememberedAt h }
 
 pub guard-next : (cells : List ℕ) (r : Readings) (h : List Deed) → 1 ≤ settingsAt h .r332
     → guardAt (took cells r ∷ h) ≡ guardOf (guardAt h) (settingsAt h) r (extremesOf cells)
-unfolding guardOf latchedAt waitsAt latchedOf waitsOf recoversOf
-guard-next cells r h some =
-    let m : Moment = momentOf (settingsAt h) (cells, r) in
-    let ms = momentsAt h in
-    let long : 1 ≤ 10 * (settingsAt h .r332) = omega arith in
-    λ i. record {
-      latched =
-          record {
-            uv = stands-next (λ m. holds m .uv) (λ m. cellsHighEnough (m .settings) (extremesOf (m .cells))) m ms i;
-            ov = stands-next (λ m. holds m .ov) (λ m. cellsLowEnough (m .settings) (extremesOf (m .cells))) m ms i;
-            ot = stands-next (λ m. holds m .ot) (λ m. sensorsCool (m .settings) (m .readings)) m ms i;
-            doc = waits-next (λ m. holds m .doc) waitOf m ms long i;
-            coc = waits-next (λ m. holds m .coc) waitOf m ms long i;
-            roc = waits-next (λ m. holds m .roc) waitOf m ms long i;
-            lt = stands-next (λ m. holds m .lt) (λ m. externalsMild (m .settings) (m .readings)) m ms i;
-          };
-      waits =
-          record {
-            doc = left-next (λ m. holds m .doc) waitOf m ms i;
-            coc = left-next (λ m. holds m .coc) waitOf m ms i;
-            roc = left-next (λ m. holds m .roc) waitOf m ms i;
-          };
-    }
+unfolding latchedAt waitsAt rememberedAt
+guard-next cells r h enough = guard.guard-next (momentOf (settingsAt h) (cells, r)) (momentsAt h) enough
 
 -- ---- the window
 pub window-next : (cells : List ℕ) (r : Readings) (h : List Deed) → windowAt (took cells r ∷ h) ≡ shifted (windowAt h) (r .pulses)
@@ -185,13 +131,13 @@ external-next x ts = go (connected x) ts
   where
     go : (t : Bool) (ts : List ℤ) → temperaturesOf (cond t (x ∷ []) [] ++ ts)
         ≡ record {
-          coldest = cond t (cond (seenOf ts) (lowerOf x (coldestOf ts)) x) (coldestOf ts);
-          hottest = cond t (cond (seenOf ts) (higherOf (hottestOf ts) x) x) (hottestOf ts);
-          seen = seenOf ts || t;
+          coldest = cond t (cond (some ts) (lowerOf x (coldestOf ts)) x) (coldestOf ts);
+          hottest = cond t (cond (some ts) (higherOf (hottestOf ts) x) x) (hottestOf ts);
+          seen = some ts || t;
         }
     go true [] = refl
     go true (y ∷ ys) = refl
-    go false ts = λ i. record { coldest = coldestOf ts; hottest = hottestOf ts; seen = sym (or-false (seenOf ts)) i }
+    go false ts = λ i. record { coldest = coldestOf ts; hottest = hottestOf ts; seen = sym (or-false (some ts)) i }
 
 temperatures-next : (t : List ℕ × Readings) (ts : List ℤ) → temperaturesOf (externals t ++ ts) ≡ withExternal (withExternal (temperaturesOf ts) (t .1 .external1)) (t .1 .external2)
 temperatures-next t ts =

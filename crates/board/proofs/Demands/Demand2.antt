@@ -5,6 +5,7 @@ use mathlib.Core.Path.{_≡_, refl, ap, ap₂, _∙_}
 use mathlib.Core.List.{List, [], _∷_, reverseAux}
 use Prim.Native.Nat.{ℕ}
 use Rattle.events.specs.Events.{noEvents}
+use Rattle.guard.specs.Account.{latchedFrom, waitsFrom, rememberedFrom}
 use Rattle.statistics.specs.Statistics.{clearedAt}
 use Rattle.board.specs.declared.Board.{Board}
 use Rattle.pack.specs.Pack.{newPack}
@@ -13,12 +14,12 @@ use Rattle.board.specs.Start.{startBoard}
 use Rattle.board.specs.Calls.{Call, Seen, tick, frame, handover, step}
 use Rattle.board.specs.Behaviour.{afterIn, answersIn, board}
 use Rattle.board.specs.Demands.{Demand2, deeds, told, toldAll}
-use Rattle.board.specs.Account.{settingsAt, secondsAt, clockAt, latchedAt, waitsAt, sensedAt, windowAt, chargerAt, statusAt, decisionAt, balancingAt, chargeAt, dischargeAt, eventsAt, statisticsAt, boardAt, deedsOf}
+use Rattle.board.specs.Account.{settingsAt, secondsAt, clockAt, latchedAt, waitsAt, rememberedAt, sensedAt, windowAt, chargerAt, statusAt, decisionAt, balancingAt, chargeAt, dischargeAt, eventsAt, statisticsAt, boardAt, deedsOf}
 use Rattle.board.proofs.Account.Calls.{stepped}
 
 module _ (cells perKm : ℕ) where
   pub begun : startBoard cells perKm ≡ boardAt cells perKm (deedsOf cells perKm [])
-  unfolding startBoard newPack newHire noEvents clearedAt deedsOf boardAt settingsAt clockAt secondsAt latchedAt waitsAt sensedAt windowAt chargerAt statusAt decisionAt balancingAt chargeAt dischargeAt eventsAt statisticsAt
+  unfolding startBoard newPack newHire noEvents clearedAt deedsOf boardAt settingsAt clockAt secondsAt latchedFrom waitsFrom rememberedFrom latchedAt waitsAt rememberedAt sensedAt windowAt chargerAt statusAt decisionAt balancingAt chargeAt dischargeAt eventsAt statisticsAt
   begun = refl
 
   on : (h cs : List Call) → afterIn board (boardAt cells perKm (deedsOf cells perKm h)) cs ≡ boardAt cells perKm (deedsOf cells perKm (reverseAux cs h))

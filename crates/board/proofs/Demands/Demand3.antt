@@ -8,6 +8,7 @@ use mathlib.Core.List.{List, [], _∷_, _++_}
 use Prim.Native.Nat.{ℕ, _/_, _%_, min}
 use lib.ListN.{length, drop}
 use Rattle.board.specs.declared.Board.{Board}
+use Rattle.guard.specs.declared.Guard.{Guard}
 use Rattle.pack.specs.declared.Pack.{Pack}
 use Rattle.board.specs.State.{usable}
 use Rattle.board.specs.Start.{startBoard}
@@ -20,6 +21,7 @@ use Rattle.board.specs.Calls.{Call, Seen, seen, tick, frame, handover, s
 use Rattle.board.specs.Behaviour.{Behaviour, board, afterIn, answersIn}
 use Rattle.board.specs.Account.{Deed, boardAt, clockAt, secondsAt, countAt}
 use Rattle.board.specs.Demands.{deeds, BothQuiet, SameKept, Demand2, Demand3}
+use Rattle.board.proofs.Account.Tick.{guardAt}
 use Rattle.board.proofs.Demands.QuietTicks.{stilled}
 use Rattle.board.proofs.Demands.Demand2.{account, demand2}
 
@@ -59,7 +61,7 @@ module _ (B : Behaviour) where
 kept-pack : (cells perKm : ℕ) (h k : List Deed) → SameKept h k → boardAt cells perKm h .pack ≡ boardAt cells perKm k .pack
 unfolding boardAt
 kept-pack cells perKm h k e =
-    λ i. record { settings = e .settings i; guard = record { latched = e .latched i; waits = e .waits i }; clock = e .clock i; cells = cells; «per_km» = perKm }
+    λ i. record { settings = e .settings i; guard = record { latched = e .latched i; waits = e .waits i; remembered = e .remembered i }; clock = e .clock i; cells = cells; «per_km» = perKm }
 
 kept-usable : (cells perKm : ℕ) (h : List Deed) → usable (boardAt cells perKm h) ≡ usable (startBoard cells perKm)
 unfolding boardAt startBoard newPack
@@ -72,13 +74,13 @@ same-clock h k e = λ i. record { seconds = min 4294967295 (e i / 10); tenths = 
 module _ (cells perKm : ℕ) (xs ys : List Call) where
   both-quiet : BothQuiet 300 (deeds cells perKm xs) (deeds cells perKm ys) → SameKept (deeds cells perKm xs) (deeds cells perKm ys)
   both-quiet q =
-      let x = stilled cells perKm xs (q .first) in
-      let y = stilled cells perKm ys (q .second) in
+      let same-guard : guardAt (deeds cells perKm xs) ≡ guardAt (deeds cells perKm ys) = stilled cells perKm xs (q .first) ∙ sym (stilled cells perKm ys (q .second)) in
       record {
         settings = q .settings;
         clock = same-clock _ _ (q .ticks);
-        latched = x .0 ∙ sym (y .0);
-        waits = x .1 ∙ sym (y .1);
+        latched = ap (λ (g : Guard). g .latched) same-guard;
+        waits = ap (λ (g : Guard). g .waits) same-guard;
+        remembered = ap (λ (g : Guard). g .remembered) same-guard;
       }
 
   same : SameKept (deeds cells perKm xs) (deeds cells perKm ys)

@@ -10,16 +10,25 @@ holding-requires c κs = search needs
 next-requires : tie.Need-next-requires
 next-requires c κs = search needs
 
+with-connected-requires : tie.Need-with-connected-requires
+with-connected-requires c κs = search needs
+
 recovering-requires : tie.Need-recovering-requires
 recovering-requires c κs = search needs
 
 next-requires-2 : tie.Need-next-requires-2
 next-requires-2 c κs = search needs
 
+while-latched-requires : tie.Need-while-latched-requires
+while-latched-requires c κs = search needs
+
 returns : tie.Need-returns
 unfolding guardOf
-returns c = rw (c .next2 .ensures, c .before .recovering .ensures, c .before .before .next .ensures, c .before .before .before .holding .ensures)
+returns c =
+    let latched = c .before in
+    let recovers = latched .before in
+    rw (c .while-latched .ensures, latched .next2 .ensures, recovers .recovering .ensures, recovers .before .with-connected .ensures, recovers .before .before .next .ensures, recovers .before .before .before .holding .ensures)
 
 pub next-spec : {M : Type 1} → statement M
 next-spec =
-    tie.close (tie.spec holding-requires next-requires recovering-requires next-requires-2 returns)
+    tie.close (tie.spec holding-requires next-requires with-connected-requires recovering-requires next-requires-2 while-latched-requires returns)

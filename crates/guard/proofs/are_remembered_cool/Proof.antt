@@ -4,8 +4,8 @@ use mathlib.Core.Path.{ap₂}
 use borrow.Author.Needs.{needs, sfits-of}
 use Rattle.guard.specs.Guard.{cool}
 use Rattle.guard.proofs.Told.{told, externals-told}
-use Rattle.guard.proofs.are_sensors_cool.Statement.{statement}
-use Rattle.guard.proofs.are_sensors_cool.Tie as tie
+use Rattle.guard.proofs.are_remembered_cool.Statement.{statement}
+use Rattle.guard.proofs.are_remembered_cool.Tie as tie
 
 is-cool-requires : tie.Need-is-cool-requires
 is-cool-requires c κs = search needs
@@ -25,21 +25,23 @@ is-cool-requires-3 c κs = search needs
 returns : tie.Need-returns
 returns c =
     let fits = c .before .struct-told5 .given .1 in
-    let first = c .before .before .before .before in
-    let internal = first .before .before .before .before in
-    let start = internal .before .before in
-    let test = cool (start .args .settings) in
+    let first = c .before .before .before in
+    let internal = first .before .before .before in
+    let two = internal .before .before in
+    let one = two .before .before in
+    let a = one .before .before .args in
+    let test = cool (a .settings) in
     ap₂ _&&_
-    (told test (start .args .readings .internal) (sfits-of (fits .0 .1)) (internal .is-cool .ensures))
-    (externals-told (λ c₁ t₁ c₂ t₂. (not c₁ || t₁) && (not c₂ || t₂)) test (start .args .readings) (sfits-of (fits .1 .0 .1)) (sfits-of (fits .1 .1 .0 .1)) (first .before .before .is-connected .ensures) (first .is-cool2 .ensures) (c .before .before .is-connected2 .ensures) (c .is-cool3 .ensures))
+    (told test (a .readings .internal) (sfits-of (fits .0 .1)) (internal .is-cool .ensures))
+    (externals-told (λ c₁ t₁ c₂ t₂. (not (a .remembered .external1) || c₁ && t₁) && (not (a .remembered .external2) || c₂ && t₂)) test (a .readings) (sfits-of (fits .1 .0 .1)) (sfits-of (fits .1 .1 .0 .1)) (one .is-connected .ensures) (first .is-cool2 .ensures) (two .is-connected2 .ensures) (c .is-cool3 .ensures))
 
-pub are-sensors-cool-spec : {M : Type 1} → statement M
-are-sensors-cool-spec =
+pub are-remembered-cool-spec : {M : Type 1} → statement M
+are-remembered-cool-spec =
     tie.close
     (tie.spec
-    is-cool-requires
     is-connected-requires
-    is-cool-requires-2
     is-connected-requires-2
+    is-cool-requires
+    is-cool-requires-2
     is-cool-requires-3
     returns)
