@@ -6,14 +6,16 @@
 #include <stddef.h>
 #include <stdint.h>
 
-/* "Numbers the caller gets". Number 5 (a reply payload above 254 bytes) has no place here: a register block lies
-   in one range, so a payload is 200 bytes at most (100 registers), and 48 events make 196. */
+/* "Numbers the caller gets", and 6 and 7 of W-201. Number 5 (a reply payload above 254 bytes) has no place here: a
+   register block lies in one range, so a payload is 200 bytes at most (100 registers), and 48 events make 196. */
 enum number {
     DONE = 0,
     ROOM_TOO_SMALL = 1,
     NOT_A_FRAME = 2,
     WRONG_CRC = 3,
     AGAINST_A_RULE = 4,
+    FRAME_HELD = 6,
+    NO_FRAME_HELD = 7,
     WRONG_CELL_SLICE = 11,
     WRONG_CURRENT = 12,
     NO_INTERNAL_TEMPERATURE = 13,
@@ -25,6 +27,7 @@ enum {
     LEAST_CELLS = 4,
     MOST_CELLS = 16,
     LEAST_ROOM = 259,
+    LONGEST_REQUEST = 264,  /* a 0x10 whose PL is 255 */
     NOT_CONNECTED = -32768,
     EVENTS_KEPT = 48,
     WINDOW = 10             /* ticks that the speed looks back on */
@@ -68,6 +71,12 @@ struct event {
     uint8_t number;
 };
 
+/* W-201: the bytes of the frame that is held or still unfinished, from its 0xAA on; none of what was skipped. */
+struct receiver {
+    uint8_t bytes[LONGEST_REQUEST];
+    size_t length;
+};
+
 struct board {
     /* Kept at a handover. */
     uint8_t cells;                      /* 0: no board */
@@ -90,6 +99,7 @@ struct board {
     struct statistics statistics;
     struct event event[EVENTS_KEPT];    /* the event noted as number n lies at n modulo 48 */
     uint64_t events_noted, events_sent; /* since their clear; sent: noted before the latest 0x11 */
+    struct receiver receiver;
 };
 
 /* 0: none. 1 to 6: a slip of the old board, put in on purpose; in the order of "Slips seen on our old board". */
@@ -99,7 +109,10 @@ enum number board_start(struct board *board, uint8_t cells, uint16_t pulses_per_
 enum number board_tick(struct board *board, const struct readings *readings, const uint16_t *cell, size_t cells);
 enum number board_frame(struct board *board, const uint8_t *frame, size_t length, uint8_t *reply, size_t room);
 enum number board_handover(struct board *board);
+enum number board_offer(struct board *board, const uint8_t *bytes, size_t length, size_t *taken);
+enum number board_fetch(struct board *board, uint8_t *reply, size_t room);
 
+bool holds_frame(const struct board *board);
 void clear_events(struct board *board);
 void clear_statistics(struct board *board);
 
@@ -107,6 +120,10 @@ void clear_statistics(struct board *board);
 bool in_one_range(unsigned first, unsigned registers);
 uint16_t board_register(const struct board *board, unsigned number);    /* of one in a range */
 uint16_t crc_of(const uint8_t *bytes, size_t length);
+
+/* "All lengths include AA and CRC." The length of the request that has these first bytes; the least that it may have
+   where they do not tell yet. */
+size_t length_of_request(const uint8_t *first, size_t bytes);
 
 /* 320 is signed 16-bit; every other setting is read as it stands. */
 static inline int read_setting(const struct settings *settings, unsigned number)

@@ -177,6 +177,30 @@ static char *call_frame(struct board *board, struct words *words, char *answer)
     return say_buffer(say_state(answer, number, board), reply, (size_t)room);
 }
 
+/* "how many of its bytes were taken, 0 where it is refused" */
+static char *call_offer(struct board *board, struct words *words, char *answer)
+{
+    uint8_t bytes[MOST_BYTES];
+    size_t length, taken;
+    if (!take_bytes(words, bytes, &length))
+        return NULL;
+    const enum number number = board_offer(board, bytes, length, &taken);
+    answer = say_state(answer, number, board);
+    *answer++ = ' ';
+    return say_decimal(answer, (unsigned)taken);
+}
+
+static char *call_fetch(struct board *board, struct words *words, char *answer)
+{
+    int64_t room;
+    uint8_t reply[MOST_ROOM];
+    if (!take_number(words, 0, MOST_ROOM, &room) || another_word(words))
+        return NULL;
+    memset(reply, 0x5A, (size_t)room);
+    const enum number number = board_fetch(board, reply, (size_t)room);
+    return say_buffer(say_state(answer, number, board), reply, (size_t)room);
+}
+
 static char *call_handover(struct board *board, struct words *words, char *answer)
 {
     if (another_word(words))
@@ -215,6 +239,10 @@ static char *make_call(struct board *board, struct words *words, char *answer)
         return call_tick(board, words, answer);
     if (take_word(words, "frame"))
         return call_frame(board, words, answer);
+    if (take_word(words, "offer"))
+        return call_offer(board, words, answer);
+    if (take_word(words, "fetch"))
+        return call_fetch(board, words, answer);
     if (take_word(words, "start"))
         return call_start(board, words, answer);
     if (take_word(words, "handover"))

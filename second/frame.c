@@ -228,24 +228,41 @@ static bool send_settings(const struct board *board, const uint8_t *frame, struc
     return true;
 }
 
+/* W-201: "The length follows from the command, for 0x10 from its PL byte (9+PL, at most 264), and is 4 for an unknown
+   command." With PL = 2*RL this is document 01's 9+2*RL. */
+size_t length_of_request(const uint8_t *first, size_t bytes)
+{
+    if (bytes < 2)
+        return 4;
+    switch (first[1]) {
+    case 0x02: return 5;
+    case 0x03: return 8;
+    case 0x10: return bytes < 7 ? 9 : 9 + (size_t)first[6];
+    case 0x1D: return 7;
+    default: return 4;
+    }
+}
+
 /* "The command byte decides the length and the meaning". False is number 4. */
 static bool obey(struct board *board, const uint8_t *frame, size_t length, struct reply *reply)
 {
+    if (length != length_of_request(frame, length))
+        return false;
     switch (frame[1]) {
-    case 0x02: return length == 5 && clear(board, frame[2], reply);
-    case 0x03: return length == 8 && read_block(board, frame, reply);
-    case 0x10: return length >= 9 && length == 9 + 2 * (size_t)frame[5] && write_block(board, frame, reply);
+    case 0x02: return clear(board, frame[2], reply);
+    case 0x03: return read_block(board, frame, reply);
+    case 0x10: return write_block(board, frame, reply);
     case 0x11:
-    case 0x12: return length == 4 && send_events(board, frame[1], reply);
-    case 0x14: return length == 4 && send_data(0x14, pair(board, 36), 4, reply);
-    case 0x15: return length == 4 && send_data(0x15, pair(board, 38), 4, reply);
-    case 0x16: return length == 4 && send_data(0x16, board_register(board, 41), 2, reply);
-    case 0x17: return length == 4 && send_data(0x17, board_register(board, 40), 2, reply);
-    case 0x18: return length == 4 && send_data(0x18, board_register(board, 50), 2, reply);
-    case 0x19: return length == 4 && send_data(0x19, pair(board, 32), 4, reply);
-    case 0x1B: return length == 4 && send_temperatures(board, reply);
-    case 0x1C: return length == 4 && send_cells(board, reply);
-    case 0x1D: return length == 7 && send_settings(board, frame, reply);
+    case 0x12: return send_events(board, frame[1], reply);
+    case 0x14: return send_data(0x14, pair(board, 36), 4, reply);
+    case 0x15: return send_data(0x15, pair(board, 38), 4, reply);
+    case 0x16: return send_data(0x16, board_register(board, 41), 2, reply);
+    case 0x17: return send_data(0x17, board_register(board, 40), 2, reply);
+    case 0x18: return send_data(0x18, board_register(board, 50), 2, reply);
+    case 0x19: return send_data(0x19, pair(board, 32), 4, reply);
+    case 0x1B: return send_temperatures(board, reply);
+    case 0x1C: return send_cells(board, reply);
+    case 0x1D: return send_settings(board, frame, reply);
     default: return false;
     }
 }

@@ -1,5 +1,5 @@
-/* Scripts of calls that press the limits of document 01. The script's own board runs beside it, so that the values
-   lie at, one below and one above the limits of the settings then in force. */
+/* Scripts of calls that press the limits of documents 01 and 02. The script's own board runs beside it, so that the
+   values lie at, one below and one above the limits of the settings then in force. */
 #include "console.h"
 
 #include <stdarg.h>
@@ -21,6 +21,8 @@ struct script {
     int around_OT;              /* ticks left of a run around OT */
     enum heat internal, external[2];    /* in that run */
     int reads_of_events;        /* one frame in so many is 0x11 */
+    uint8_t waiting[3 * MOST_BYTES];    /* bytes on the raw line that are still to be offered */
+    size_t waiting_length;
     char line[LONGEST_LINE + 100];
     size_t length;
 };
@@ -461,22 +463,33 @@ static void spoil(struct script *script, struct request *request)
     }
 }
 
+static void say_bytes(struct script *script, const char *byte_format, const uint8_t *bytes, size_t length)
+{
+    for (size_t at = 0; at < length && at < MOST_BYTES; at++)
+        say(script, byte_format, bytes[at]);
+}
+
 static void say_request(struct script *script, int room, const char *byte_format, const struct request *request)
 {
     say(script, "frame %d", room);
-    for (size_t at = 0; at < request->length && at < MOST_BYTES; at++)
-        say(script, byte_format, request->bytes[at]);
+    say_bytes(script, byte_format, request->bytes, request->length);
+}
+
+/* Room for a reply, but for one time in so many. */
+static int make_room(struct script *script, int times)
+{
+    static const int rooms[] = {0, 1, 2, 257, 258, 258};
+    static const int enough[] = {259, 259, 260, 261, 300, 600};
+    return one_in(script, times) ? PICK(script, rooms) : PICK(script, enough);
 }
 
 static void say_frame(struct script *script)
 {
-    static const int rooms[] = {0, 1, 2, 257, 258, 258};
-    static const int enough[] = {259, 259, 260, 261, 300, 600};
     struct request request;
     ask(script, &request);
     if (one_in(script, 15))
         spoil(script, &request);
-    const int room = one_in(script, 30) ? PICK(script, rooms) : PICK(script, enough);
+    const int room = make_room(script, 30);
     say_request(script, room, one_in(script, 20) ? " %02x" : " %02X", &request);
 }
 
@@ -498,6 +511,79 @@ static void say_app_frame(struct script *script)
     }
     add_crc(&request);
     say_request(script, LEAST_ROOM, " %02X", &request);
+}
+
+/* ---- The raw line ---- */
+
+/* "for 0x10 from its PL byte (9+PL, at most 264)": a frame of that length, its RL as it may be. */
+static void ask_by_PL(struct script *script, struct request *request)
+{
+    const int PL = PICK(script, ((const int[]){0, 1, 2, 2, 3, 4, 200, 254, 255, 255}));
+    *request = (struct request){{0xAA, 0x10, 0x01, 0x4C, 0}, 5};
+    add(request, one_in(script, 4) ? between(script, 0, 255) : near(script, PL / 2));
+    add(request, PL);
+    for (int at = 0; at < PL; at++)
+        add(request, one_in(script, 2) ? 0 : between(script, 0, 30));
+    add_crc(request);
+}
+
+/* "Bytes before 0xAA are skipped": some that are none, and seldom one that begins a frame. */
+static void make_noise(struct script *script, struct request *noise)
+{
+    noise->length = 0;
+    for (int bytes = one_in(script, 4) ? between(script, 1, 8) : 0; bytes > 0; bytes--)
+        add(noise, one_in(script, 20) ? 0xAA : between(script, 0, 255));
+}
+
+static void let_wait(struct script *script, const struct request *request)
+{
+    memcpy(script->waiting + script->waiting_length, request->bytes, request->length);
+    script->waiting_length += request->length;
+}
+
+/* A request of any kind, good or bad, and at times noise before it. */
+static void send_request(struct script *script)
+{
+    struct request request;
+    make_noise(script, &request);
+    let_wait(script, &request);
+    if (one_in(script, 12))
+        ask_by_PL(script, &request);
+    else
+        ask(script, &request);
+    if (one_in(script, 15))
+        spoil(script, &request);
+    let_wait(script, &request);
+}
+
+/* Some or all of the bytes that wait: less than a frame, one or more of them. The bytes that are not taken wait to be
+   offered again, or now and then are lost. */
+static void say_offer(struct script *script)
+{
+    while (script->waiting_length == 0 || (script->waiting_length < MOST_BYTES && one_in(script, 3)))
+        send_request(script);
+    int length = hold((int)script->waiting_length, 0, MOST_BYTES);
+    if (one_in(script, 2))
+        length = between(script, 0, one_in(script, 2) ? hold(length, 0, 9) : length);
+    say(script, "offer");
+    say_bytes(script, one_in(script, 20) ? " %02x" : " %02X", script->waiting, (size_t)length);
+    struct board after = script->board;
+    size_t gone;
+    board_offer(&after, script->waiting, (size_t)length, &gone);
+    if (one_in(script, 10))
+        gone = (size_t)length;
+    script->waiting_length -= gone;
+    memmove(script->waiting, script->waiting + gone, script->waiting_length);
+}
+
+/* Offers until a frame is held, then its fetch; now and then an offer that is refused 6, or a fetch refused 7. */
+static void say_offer_or_fetch(struct script *script)
+{
+    const bool refused = one_in(script, 8);
+    if (holds_frame(&script->board) == refused)
+        say_offer(script);
+    else
+        say(script, "fetch %d", make_room(script, 12));
 }
 
 /* ---- Other lines ---- */
@@ -522,6 +608,8 @@ static const char *const junk[] = {
     " # no comment", "frame", "frame 601 AA 18 7F 1A", "frame -0 AA 18 7F 1A", "frame 259 A", "frame 259 AAA 18 7F 1A",
     "frame 259 GG", "frame 259 A/", "frame 259 :A", "frame 259 @A", "frame 259 A`", "frame 259 aG",
     "frame 259 AA 18 7F 1A \x01", "frame AA 18 7F 1A", "frame 0x259 AA 18 7F 1A", "frame 0259 aa 18 7f 1A",
+    "offer", "offer A", "offer AAA", "offer AA18 7F", "offer 259 AA", "offers AA", "Offer AA", "offer aa 1D",
+    "offer GG", "fetch", "fetch 601", "fetch -0", "fetch 259 AA", "fetch 0600", "fetch 259 ", "fetch x", "fetched 259",
     "crc", "crc 1", "crc 001", "crc ZZ", "crc aB Ba", "register", "register 65536", "register -0", "register 50 50",
     "register 0050", "tick 0 250 250 250 0 0",
     "tick 2147483648 250 250 250 0 0 0 1 2 3 4", "tick -2147483649 250 250 250 0 0 0 1 2 3 4",
@@ -539,7 +627,7 @@ static void say_junk(struct script *script)
 {
     const int kind = between(script, 0, 11);
     if (kind == 0) {
-        say(script, "frame 600");
+        say(script, one_in(script, 2) ? "frame 600" : "offer");
         for (int bytes = between(script, 300, 302); bytes > 0; bytes--)
             say(script, " 0%d", bytes % 10);
     } else if (kind == 1) {
@@ -563,7 +651,7 @@ static void say_junk(struct script *script)
 /* "Number 21 gives back no usable board: any later call on it, handover included, answers 21" */
 static void say_call_without_board(struct script *script)
 {
-    const int kind = between(script, 0, 4);
+    const int kind = between(script, 0, 6);
     script->unstarted--;
     if (kind == 0)
         say(script, "handover");
@@ -573,6 +661,10 @@ static void say_call_without_board(struct script *script)
         say_tick(script);
     else if (kind == 2 && script->unstarted < 0)
         say_start(script);
+    else if (kind == 5)
+        say_offer(script);
+    else if (kind == 6)
+        say(script, "fetch %d", make_room(script, 2));
     else
         say_frame(script);
 }
@@ -603,7 +695,9 @@ static void say_call(struct script *script)
         say_junk(script);
     } else if (kind < 400) {
         say_register(script);
-    } else if (kind < (script->quiet > 0 ? 1200 : 3000)) {
+    } else if (kind < 2400) {
+        say_offer_or_fetch(script);
+    } else if (kind < (script->quiet > 0 ? 2900 : 4000)) {
         say_frame(script);
     } else {
         say_next_tick(script);

@@ -1,5 +1,6 @@
 pub mod Replies
 pub mod Promises
 pub mod Opened
+pub mod Deaf
 pub mod Account
 pub mod Demands

@@ -21,11 +21,13 @@ use Rattle.hire.specs.Registers.{liveRegister}
 use Rattle.board.specs.Registers.{shownAt}
 use Rattle.board.specs.Handover.{handedOver, handoverOf}
 use Rattle.wire.specs.Wire.{words, sealed, padded}
-use Rattle.requests.specs.Requests.{expectedOf, clearOf, blockOf, writeOf, kindOf, settingsOf, fieldsOf, askedOf, requestOf, refusalNumber, commandOf, hasLength, draftedOf, marks}
+use Rattle.requests.specs.Requests.{expectedOf, lengthOf, clearOf, blockOf, writeOf, kindOf, settingsOf, fieldsOf, askedOf, requestOf, refusalNumber, commandOf, hasLength, draftedOf, marks}
 use Rattle.board.specs.Frames.{valueAt, bodyBy, bodyOf, payloadOf, requestNumber, changedBy, requestBoard, refusalReply, writeReply, queryReply, requestReply, frameNumber, frameBoard, frameReply}
+use Rattle.receiver.specs.Receiver.{isHeld, withByte, offeredOf}
+use Rattle.board.specs.Line.{offerOf, fetchNumber, fetchBoard, fetchReply}
 use Rattle.board.specs.Calls.{step}
 use Rattle.board.specs.Behaviour.{afterIn, answersIn}
-use Rattle.board.specs.Account.{settingsAt, secondsAt, clockAt, latchedAt, waitsAt, rememberedAt, sensedAt, windowAt, chargerAt, statusAt, decisionAt, balancingAt, chargeAt, dischargeAt, eventsAt, statisticsAt, boardAt, requestDeed, deedOf, deedsOf}
+use Rattle.board.specs.Account.{settingsAt, secondsAt, clockAt, latchedAt, waitsAt, rememberedAt, sensedAt, windowAt, chargerAt, statusAt, decisionAt, balancingAt, chargeAt, dischargeAt, eventsAt, statisticsAt, heardAt, boardAt, asking, calling, deedsOf}
 use Rattle.board.specs.Numbers.{against, long, rows, first, numberAt, replyBytes}
 use Rattle.board.specs.Demands.{told, toldAll}
 
@@ -34,9 +36,9 @@ unfolding tickedOf sensed watched acted readingsKept timePassed ridden chargerSe
 steps = tt
 
 unfoldable pub opened : Unit {0}
-unfolding shifted packed crc.crcOf crc.byteIn crc.times crc.shiftedOut events.latest events.noEvents events.addOf events.sentOf holdsOf waitsOf recoversOf latchedOf guardOf is chargeOff dischargeOff faulty latchEvent recoveryEvent eventOf live.bitsOf live.speedBitsOf readings.judgedOf readings.numberOf settings.ofKind settings.registerOf settings.listed settings.withOf settings.noneBelow settings.inRange settings.ordered settings.judgedOf settings.numberOf settings.putOf settings.verdictOf settings.standingOf signed.bitsOf signed.fromBits signed.degreesOf statistics.distanceOf statistics.countsOf statistics.temperaturesShown statistics.riddenOf statistics.countedOf statistics.clearedAt statistics.registerOf newHire newPack startBoard steps laterOf statusFor tickNumber tickOf liveRegister shownAt handedOver handoverOf words sealed padded expectedOf clearOf blockOf writeOf kindOf settingsOf fieldsOf askedOf requestOf valueAt bodyBy payloadOf commandOf marks refusalNumber draftedOf requestNumber changedBy requestBoard refusalReply writeReply queryReply requestReply frameNumber frameBoard frameReply step afterIn answersIn
+unfolding shifted packed crc.crcOf crc.byteIn crc.times crc.shiftedOut events.latest events.noEvents events.addOf events.sentOf holdsOf waitsOf recoversOf latchedOf guardOf is chargeOff dischargeOff faulty latchEvent recoveryEvent eventOf live.bitsOf live.speedBitsOf readings.judgedOf readings.numberOf settings.ofKind settings.registerOf settings.listed settings.withOf settings.noneBelow settings.inRange settings.ordered settings.judgedOf settings.numberOf settings.putOf settings.verdictOf settings.standingOf signed.bitsOf signed.fromBits signed.degreesOf statistics.distanceOf statistics.countsOf statistics.temperaturesShown statistics.riddenOf statistics.countedOf statistics.clearedAt statistics.registerOf newHire newPack startBoard steps laterOf statusFor tickNumber tickOf liveRegister shownAt handedOver handoverOf words sealed padded expectedOf clearOf blockOf writeOf kindOf settingsOf fieldsOf askedOf requestOf valueAt bodyBy payloadOf commandOf marks refusalNumber draftedOf requestNumber changedBy requestBoard refusalReply writeReply queryReply requestReply frameNumber frameBoard frameReply lengthOf isHeld withByte offeredOf offerOf fetchNumber fetchBoard fetchReply step afterIn answersIn
 opened = tt
 
 unfoldable pub accounted : Unit {0}
-unfolding opened latchedFrom waitsFrom rememberedFrom settingsAt secondsAt clockAt latchedAt waitsAt rememberedAt sensedAt windowAt chargerAt statusAt decisionAt balancingAt chargeAt dischargeAt eventsAt statisticsAt boardAt requestDeed deedOf deedsOf told toldAll against long rows first numberAt replyBytes hasLength
+unfolding opened latchedFrom waitsFrom rememberedFrom settingsAt secondsAt clockAt latchedAt waitsAt rememberedAt sensedAt windowAt chargerAt statusAt decisionAt balancingAt chargeAt dischargeAt eventsAt statisticsAt heardAt boardAt asking calling deedsOf told toldAll against long rows first numberAt replyBytes hasLength
 accounted = tt

@@ -10,9 +10,10 @@ use Rattle.events.specs.declared.Event.{Event}
 use Rattle.readings.specs.declared.Readings.{Readings}
 use Rattle.board.specs.declared.Board.{Board}
 use Rattle.board.specs.declared.Answer.{Answer}
+use Rattle.board.specs.declared.Heard.{Heard}
 use Rattle.board.specs.declared.Shown.{Shown}
-use Rattle.board.specs.Promises.{Starts, Ticks, HandsOver, Frames, ShowsRegister, ShowsCharge, ShowsDischarge, ShowsDecision, ShowsBalancing, ShowsLifetime, CountsKept, ShowsKept, CountsNew, ShowsNew}
-use Rattle.board.specs.Calls.{Seen, seen, framed, step, tick, frame, handover}
+use Rattle.board.specs.Promises.{Starts, Ticks, HandsOver, Frames, Offers, Fetches, ShowsRegister, ShowsCharge, ShowsDischarge, ShowsDecision, ShowsBalancing, ShowsLifetime, CountsKept, ShowsKept, CountsNew, ShowsNew}
+use Rattle.board.specs.Calls.{Seen, seen, heard, framed, fetched, step, tick, frame, handover, offer, fetch}
 
 -- any two results that a promise allows are equal
 abbrev pub Determines : (A : Type 0) → (A → Type 0) → Type 0
@@ -25,6 +26,9 @@ equal x r r′ p q = p ∙ sym q
 answered : (b : Board) (s before : List ℕ) (r : Answer) (after : List ℕ) → Frames b s before r after → r ≡ framed b s (length before)
 answered b s before r after f = λ i. record { number = f .number i; board = f .board i }
 
+fetch-answered : (b : Board) (before : List ℕ) (r : Answer) (after : List ℕ) → Fetches b before r after → r ≡ fetched b (length before)
+fetch-answered b before r after f = λ i. record { number = f .number i; board = f .board i }
+
 -- the public calls, and what is read off a board
 pub record Promises : Type 0 where
   pub start : (cells perKm : ℕ) → Determines Answer (Starts cells perKm)
@@ -32,6 +36,9 @@ pub record Promises : Type 0 where
   pub framed : (b : Board) (s before : List ℕ) (r r′ : Answer) (after after′ : List ℕ)
       → Frames b s before r after → Frames b s before r′ after′ → (r ≡ r′) × (after ≡ after′)
   pub handed : (b : Board) → Determines Answer (HandsOver b)
+  pub offered : (b : Board) (bytes : List ℕ) → Determines Heard (Offers b bytes)
+  pub fetched : (b : Board) (before : List ℕ) (r r′ : Answer) (after after′ : List ℕ)
+      → Fetches b before r after → Fetches b before r′ after′ → (r ≡ r′) × (after ≡ after′)
   pub register : (b : Board) (at : ℕ) → Determines Shown (ShowsRegister b at)
   pub charge : (b : Board) → Determines Bool (ShowsCharge b)
   pub discharge : (b : Board) → Determines Bool (ShowsDischarge b)
@@ -50,6 +57,8 @@ tight =
       ticked = λ b cells rd. equal _;
       framed = λ b s before r r′ after after′ f g. (equal _ r r′ (answered b s before r after f) (answered b s before r′ after′ g), equal _ after after′ (f .reply) (g .reply));
       handed = λ b. equal _;
+      offered = λ b bytes. equal _;
+      fetched = λ b before r r′ after after′ f g. (equal _ r r′ (fetch-answered b before r after f) (fetch-answered b before r′ after′ g), equal _ after after′ (f .reply) (g .reply));
       register = λ b at. equal _;
       charge = λ b. equal _;
       discharge = λ b. equal _;
@@ -76,3 +85,12 @@ pub frame-steps : (b : Board) (s before : List ℕ) (r : Answer) (after : List �
     → Frames b s before r after → _≡_ {A = Board × Seen} (r .board, seen r after) (step b (frame s (length before)))
 unfolding step
 frame-steps b s before r after f = let p = answered b s before r after f in λ i. (p i .board, seen (p i) (f .reply i))
+
+pub offer-steps : (b : Board) (bytes : List ℕ) (r : Heard) → Offers b bytes r → _≡_ {A = Board × Seen} (r .board, heard r) (step b (offer bytes))
+unfolding step
+offer-steps b bytes r p = λ i. (p i .board, heard (p i))
+
+pub fetch-steps : (b : Board) (before : List ℕ) (r : Answer) (after : List ℕ)
+    → Fetches b before r after → _≡_ {A = Board × Seen} (r .board, seen r after) (step b (fetch (length before)))
+unfolding step
+fetch-steps b before r after f = let p = fetch-answered b before r after f in λ i. (p i .board, seen (p i) (f .reply i))

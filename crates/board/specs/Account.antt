@@ -1,13 +1,13 @@
 -- A second account of the board, from the history of calls and not from a state that is stepped. A history is a list, the newest
--- first. First each call is judged: a deed is what a call that is done did; a refused call, and one that only reads, is `nothing`.
+-- first. First each call is judged: a deed is what a call that is done did.
 -- Then each thing that the board shows is said as a function of the deeds so far.
 -- Assumes nothing.
 use mathlib.Core.Bool.{Bool, true, false, _&&_, _||_, not, cond}
-use mathlib.Core.List.{List, [], _∷_, _++_, map}
+use mathlib.Core.List.{List, [], _∷_, _++_, map, reverse}
 use Prim.Native.Nat.{ℕ, _+_, _*_, _-_, _/_, _%_, min}
 use lib.Dec.{eqb, leb, ltb}
 use lib.IntN.{ℤ, pos}
-use lib.ListN.{length}
+use lib.ListN.{length, take}
 use Rattle.laws.specs.History.{never, since, from, each, largest, sum, count, headOr, some, newest, latest}
 use Rattle.cells.specs.Cells.{keptOf, extremesOf, sumOf, decisionOf}
 use Rattle.events.specs.declared.Event.{Event}
@@ -23,6 +23,8 @@ use Rattle.guard.specs.Table.{chargeOff, dischargeOff, eventOf, latches}
 use Rattle.live.specs.Live.{liveOf}
 use Rattle.readings.specs.declared.Readings.{Readings}
 use Rattle.readings.specs.Readings.{connected, judgedOf, numberOf}
+use Rattle.receiver.specs.Receiver.{complete}
+use Rattle.receiver.specs.Heard.{begun, takes, afterHearing}
 use Rattle.settings.specs.declared.Settings.{Settings}
 use Rattle.settings.specs.Settings as settings
 use Rattle.signed.specs.Signed.{above, below, lowerOf, higherOf, fromBits}
@@ -38,7 +40,7 @@ use Rattle.pack.specs.Pack.{usableCount}
 use Rattle.hire.specs.Hire.{noSensed}
 use Rattle.hire.specs.Tick.{chargerEvent, statusFor}
 use Rattle.requests.specs.Requests.{be16At, requestOf, marks, writtenTo}
-use Rattle.board.specs.Calls.{Call, tick, frame, handover}
+use Rattle.board.specs.Calls.{Call, tick, frame, handover, offer, fetch}
 
 -- ---- deeds
 
@@ -49,9 +51,10 @@ pub data Deed : Type 0 where
   forgot : Deed  -- events, by 0x02 option 01
   sent : Deed  -- new events, by 0x11
   handed : Deed  -- a handover
-  nothing : Deed
+  heard : List ℕ → Deed  -- the bytes that an offer took
+  fetched : Deed  -- a held frame was fetched; what it asks was done before
 
--- what each deed has: a tick, a write, and which of the marks of a history it is
+-- what each deed has: a tick, a write, bytes off the raw line, and which of the marks of a history it is
 pub record Row : Type 0 where
   pub ticks : List (List ℕ × Readings)
   pub writes : List (List ℕ × ℕ × ℕ)
@@ -59,15 +62,18 @@ pub record Row : Type 0 where
   pub forgets : Bool
   pub sends : Bool
   pub hands : Bool
+  pub hears : List ℕ
+  pub drops : Bool
 
 abbrev pub row : Deed → Row
-row (took cells r) = record { ticks = (cells, r) ∷ []; writes = []; clears = false; forgets = false; sends = false; hands = false }
-row (wrote s from n) = record { ticks = []; writes = (s, from, n) ∷ []; clears = false; forgets = false; sends = false; hands = false }
-row cleared = record { ticks = []; writes = []; clears = true; forgets = false; sends = false; hands = false }
-row forgot = record { ticks = []; writes = []; clears = false; forgets = true; sends = false; hands = false }
-row sent = record { ticks = []; writes = []; clears = false; forgets = false; sends = true; hands = false }
-row handed = record { ticks = []; writes = []; clears = true; forgets = true; sends = false; hands = true }
-row nothing = record { ticks = []; writes = []; clears = false; forgets = false; sends = false; hands = false }
+row (took cells r) = record { ticks = (cells, r) ∷ []; writes = []; clears = false; forgets = false; sends = false; hands = false; hears = []; drops = false }
+row (wrote s from n) = record { ticks = []; writes = (s, from, n) ∷ []; clears = false; forgets = false; sends = false; hands = false; hears = []; drops = false }
+row cleared = record { ticks = []; writes = []; clears = true; forgets = false; sends = false; hands = false; hears = []; drops = false }
+row forgot = record { ticks = []; writes = []; clears = false; forgets = true; sends = false; hands = false; hears = []; drops = false }
+row sent = record { ticks = []; writes = []; clears = false; forgets = false; sends = true; hands = false; hears = []; drops = false }
+row handed = record { ticks = []; writes = []; clears = true; forgets = true; sends = false; hands = true; hears = []; drops = true }
+row (heard bytes) = record { ticks = []; writes = []; clears = false; forgets = false; sends = false; hands = false; hears = bytes; drops = false }
+row fetched = record { ticks = []; writes = []; clears = false; forgets = false; sends = false; hands = false; hears = []; drops = true }
 
 abbrev pub clears : Deed → Bool
 clears d = row d .clears
@@ -77,6 +83,10 @@ forgets d = row d .forgets
 
 abbrev pub hands : Deed → Bool
 hands d = row d .hands
+
+-- handed over or fetched: what has come of a frame is dropped
+abbrev pub drops : Deed → Bool
+drops d = row d .drops
 
 -- forgotten or sent
 abbrev pub settles : Deed → Bool
@@ -296,6 +306,20 @@ statisticsAt h =
 unfoldable pub distanceAt : ℕ → List Deed → ℕ
 distanceAt perKm h = distanceOf (pulsesAt h) perKm
 
+-- ---- the raw line: the bytes taken since a frame was fetched or the pack handed over, oldest first; what has come of a frame stands in
+-- them from the first 0xAA on
+
+-- those of this moment, the newest first
+abbrev pub hearing : List Deed → List ℕ
+hearing [] = []
+hearing (d ∷ h) = reverse (row d .hears)
+
+unfoldable pub heardAt : List Deed → List ℕ
+heardAt h = reverse (each hearing (since drops h))
+
+abbrev pub heldAt : List Deed → List ℕ
+heldAt h = begun (heardAt h)
+
 -- ---- the whole board, from the history
 
 unfoldable pub boardAt : ℕ → ℕ → List Deed → Board
@@ -314,26 +338,30 @@ boardAt cells perKm h =
             balancing = balancingAt h;
             charge = chargeAt h;
             discharge = dischargeAt h;
+            receiver = afterHearing (heardAt h);
           };
     }
 
--- ---- which calls are done
+-- ---- which calls are done: a history with what a call did after it. A refused call, and one that only reads, did nothing
 
--- what a request that is answered does, where those settings stand
-unfoldable pub requestDeed : Settings → List ℕ → Request → Deed
-requestDeed st s (request.Refused refusal) = nothing
-requestDeed st s request.ClearEvents = forgot
-requestDeed st s request.ClearStatistics = cleared
-requestDeed st s (request.Write from n) = cond (eqb (settings.numberOf (writtenTo st s from n .verdict)) 0) (wrote s from n) nothing
-requestDeed st s (request.Read q) = cond (marks q) sent nothing
+-- a request that is answered, where those settings stand
+unfoldable pub asking : Settings → List ℕ → Request → List Deed → List Deed
+asking st s (request.Refused refusal) h = h
+asking st s request.ClearEvents h = forgot ∷ h
+asking st s request.ClearStatistics h = cleared ∷ h
+asking st s (request.Write from n) h = cond (eqb (settings.numberOf (writtenTo st s from n .verdict)) 0) (wrote s from n ∷ h) h
+asking st s (request.Read q) h = cond (marks q) (sent ∷ h) h
 
--- what a call does after a history of deeds, on a board with those start numbers
-unfoldable pub deedOf : ℕ → ℕ → List Deed → Call → Deed
-deedOf cells perKm h (tick given r) = cond (usableCount cells) (cond (eqb (numberOf (judgedOf cells perKm (length given) r)) 0) (took given r) nothing) nothing
-deedOf cells perKm h (frame s room) = cond (usableCount cells) (cond (ltb room 259) nothing (requestDeed (settingsAt h) s (requestOf s))) nothing
-deedOf cells perKm h handover = cond (usableCount cells) handed nothing
+-- a call, on a board with those start numbers
+unfoldable pub calling : ℕ → ℕ → List Deed → Call → List Deed
+calling cells perKm h (tick given r) = cond (usableCount cells) (cond (eqb (numberOf (judgedOf cells perKm (length given) r)) 0) (took given r ∷ h) h) h
+calling cells perKm h (frame s room) = cond (usableCount cells) (cond (ltb room 259) h (asking (settingsAt h) s (requestOf s) h)) h
+calling cells perKm h handover = cond (usableCount cells) (handed ∷ h) h
+calling cells perKm h (offer bytes) = cond (usableCount cells) (cond (complete (heldAt h)) h (heard (take (takes (heardAt h) bytes) bytes) ∷ h)) h
+calling cells perKm h (fetch room) =
+    cond (usableCount cells) (cond (ltb room 259) h (cond (complete (heldAt h)) (fetched ∷ asking (settingsAt h) (heldAt h) (requestOf (heldAt h)) h) h)) h
 
 -- the deeds of a history of calls
 unfoldable pub deedsOf : ℕ → ℕ → List Call → List Deed
 deedsOf cells perKm [] = []
-deedsOf cells perKm (c ∷ cs) = deedOf cells perKm (deedsOf cells perKm cs) c ∷ deedsOf cells perKm cs
+deedsOf cells perKm (c ∷ cs) = calling cells perKm (deedsOf cells perKm cs) c

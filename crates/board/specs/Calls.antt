@@ -7,21 +7,27 @@ use Prim.Native.Nat.{ℕ}
 use Rattle.readings.specs.declared.Readings.{Readings}
 use Rattle.board.specs.declared.Board.{Board}
 use Rattle.board.specs.declared.Answer.{Answer}
+use Rattle.board.specs.declared.Heard.{Heard}
 use Rattle.board.specs.Tick.{tickOf}
 use Rattle.board.specs.Frames.{frameNumber, frameBoard, frameReply}
+use Rattle.board.specs.Line.{offerOf, fetchNumber, fetchBoard, fetchReply}
 use Rattle.board.specs.Handover.{handoverOf}
 
--- three kinds of call after a start: a tick (cells and the other readings), a frame (its bytes, and the length of the reply buffer
--- that is lent), and a handover
+-- the calls after a start: a tick (cells and the other readings), a frame (its bytes, and the length of the reply buffer that is lent), and a
+-- handover; of the raw line, an offer (its bytes) and a fetch (the length of the reply buffer that is lent)
 pub data Call : Type 0 where
   tick : List ℕ → Readings → Call
   frame : List ℕ → ℕ → Call
   handover : Call
+  offer : List ℕ → Call
+  fetch : ℕ → Call
 
--- what the caller sees: the number, every byte of a lent reply buffer, both switches and both sets of bits after the call
+-- what the caller sees: the number, every byte of a lent reply buffer, how many bytes an offer took, both switches and both sets of bits
+-- after the call
 pub record Seen : Type 0 where
   pub number : ℕ
   pub buffer : List ℕ
+  pub taken : ℕ
   pub charge : Bool
   pub discharge : Bool
   pub decision : ℕ
@@ -29,13 +35,22 @@ pub record Seen : Type 0 where
 
 abbrev pub seen : Answer → List ℕ → Seen
 seen a buffer =
-    record { number = a .number; buffer = buffer; charge = a .board .hire .charge; discharge = a .board .hire .discharge; decision = a .board .hire .decision; balancing = a .board .hire .balancing }
+    record { number = a .number; buffer = buffer; taken = 0; charge = a .board .hire .charge; discharge = a .board .hire .discharge; decision = a .board .hire .decision; balancing = a .board .hire .balancing }
+
+abbrev pub heard : Heard → Seen
+heard a =
+    record { number = a .number; buffer = []; taken = a .taken; charge = a .board .hire .charge; discharge = a .board .hire .discharge; decision = a .board .hire .decision; balancing = a .board .hire .balancing }
 
 abbrev pub framed : Board → List ℕ → ℕ → Answer
 framed b s room = record { number = frameNumber b s room; board = frameBoard b s room }
+
+abbrev pub fetched : Board → ℕ → Answer
+fetched b room = record { number = fetchNumber b room; board = fetchBoard b room }
 
 -- one call
 unfoldable pub step : Board → Call → Board × Seen
 step b (tick cells r) = (tickOf b cells r .board, seen (tickOf b cells r) [])
 step b (frame s room) = (frameBoard b s room, seen (framed b s room) (frameReply b s room))
 step b handover = (handoverOf b .board, seen (handoverOf b) [])
+step b (offer bytes) = (offerOf b bytes .board, heard (offerOf b bytes))
+step b (fetch room) = (fetchBoard b room, seen (fetched b room) (fetchReply b room))

@@ -1,6 +1,6 @@
 -- The three demands, of any behaviour. None has a hypothesis but what demand 3 says of the two boards.
 -- Assumes nothing.
-use mathlib.Core.Bool.{true, _||_, cond}
+use mathlib.Core.Bool.{Bool, true, false, _||_, cond}
 use mathlib.Core.Logic.{_⊎_}
 use mathlib.Core.List.{List, [], _∷_, reverse}
 use mathlib.Core.Path.{_≡_}
@@ -10,9 +10,10 @@ use lib.ListN.{length, take, drop, getD, replicate}
 use Rattle.guard.specs.Quiet.{allQuiet}
 use Rattle.pack.specs.Pack.{usableCount}
 use Rattle.board.specs.declared.Board.{Board}
-use Rattle.board.specs.Calls.{Call, Seen, tick, frame, handover, step}
+use Rattle.board.specs.Calls.{Call, Seen, tick, frame, handover, offer, fetch, step}
 use Rattle.board.specs.Behaviour.{Behaviour, afterIn, answersIn}
 use Rattle.wire.specs.Wire.{sealed, padded, nackOf}
+use Rattle.board.specs.Line.{heldIn}
 use Rattle.board.specs.Numbers.{asked, numberAt, replyBytes}
 use Rattle.board.specs.Account.{Deed, boardAt, deedsOf, settingsAt, clockAt, countAt, latchedAt, waitsAt, rememberedAt, momentsAt}
 
@@ -29,15 +30,38 @@ refusedBuffer number s room =
     cond (eqb number 3) (padded room (sealed (nackOf (getD s 1 0) 0x01)))
     (cond (eqb number 4 || eqb number 5) (padded room (sealed (nackOf (getD s 1 0) 0x00))) (replicate room 0))
 
--- what a call leaves of the buffer that it is lent, where it gives that number and the board before it shows b: of the same length; after
--- a refusal as above; after a reply zeros, to its end
-abbrev pub Leaves : Board → Seen → Call → Type 0
-Leaves b a (tick cells r) = a .buffer ≡ []
-Leaves b a (frame s room) =
+-- what is left of a buffer of that room for the reply to the request s, where the board before it shows b: of the same length; after a refusal
+-- as above; after a reply zeros, to its end
+abbrev pub LeavesReply : Board → Seen → List ℕ → ℕ → Type 0
+LeavesReply b a s room =
     (length (a .buffer) ≡ room)
     × ((a .number ≡ 0 → ⊥) → a .buffer ≡ refusedBuffer (a .number) s room)
     × (a .number ≡ 0 → drop (replyBytes b (asked s)) (a .buffer) ≡ replicate (room - replyBytes b (asked s)) 0)
+
+-- what a call leaves of the buffer that it is lent; a refused offer takes nothing
+abbrev pub Leaves : Board → Seen → Call → Type 0
+Leaves b a (tick cells r) = a .buffer ≡ []
+Leaves b a (frame s room) = LeavesReply b a s room
 Leaves b a handover = a .buffer ≡ []
+Leaves b a (offer bytes) = (a .buffer ≡ []) × ((a .number ≡ 0 → ⊥) → a .taken ≡ 0)
+Leaves b a (fetch room) = LeavesReply b a (heldIn b) room
+
+-- document 02, W-201: "a fetch that answers with a NACK lets the held frame go and changes no other state, which amends demand 1 and 01's table"
+abbrev pub nacks : Call → ℕ → Bool
+nacks (tick cells r) number = false
+nacks (frame s room) number = false
+nacks handover number = false
+nacks (offer bytes) number = false
+nacks (fetch room) number = eqb number 3 || eqb number 4 || eqb number 5
+
+-- calls that are none of the raw line's
+abbrev pub offTheLine : List Call → Bool
+offTheLine [] = true
+offTheLine (tick cells r ∷ cs) = offTheLine cs
+offTheLine (frame s room ∷ cs) = offTheLine cs
+offTheLine (handover ∷ cs) = offTheLine cs
+offTheLine (offer bytes ∷ cs) = false
+offTheLine (fetch room ∷ cs) = false
 
 pub record Demand1 (B : Behaviour) : Type 0 where
   -- a start gets its number
@@ -45,7 +69,13 @@ pub record Demand1 (B : Behaviour) : Type 0 where
   -- after any calls, each call gets its number, by the table; a refused one changes no state
   pub numbers : (cells perKm : ℕ) (cs : List Call) (c : Call) → B .step (afterIn B (B .start cells perKm) cs) c .1 .number ≡ numberAt cells perKm (deeds cells perKm cs) c
   pub unchanged : (cells perKm : ℕ) (cs : List Call) (c : Call)
-      → (B .step (afterIn B (B .start cells perKm) cs) c .1 .number ≡ 0 → ⊥) → B .step (afterIn B (B .start cells perKm) cs) c .0 ≡ afterIn B (B .start cells perKm) cs
+      → (B .step (afterIn B (B .start cells perKm) cs) c .1 .number ≡ 0 → ⊥) → nacks c (B .step (afterIn B (B .start cells perKm) cs) c .1 .number) ≡ false
+      → B .step (afterIn B (B .start cells perKm) cs) c .0 ≡ afterIn B (B .start cells perKm) cs
+  -- but that a fetch that answers with a NACK lets the held frame go: none is held then, and all calls but the raw line's are answered as if it
+  -- had not come
+  pub lets-go : (cells perKm : ℕ) (cs : List Call) (room : ℕ) → nacks (fetch room) (B .step (afterIn B (B .start cells perKm) cs) (fetch room) .1 .number) ≡ true
+      → (B .step (B .step (afterIn B (B .start cells perKm) cs) (fetch room) .0) (fetch room) .1 .number ≡ 7)
+      × ((zs : List Call) → offTheLine zs ≡ true → answersIn B (B .step (afterIn B (B .start cells perKm) cs) (fetch room) .0) zs ≡ answersIn B (afterIn B (B .start cells perKm) cs) zs)
   -- and leaves of the buffer what is named, and nothing else
   pub leaves : (cells perKm : ℕ) (cs : List Call) (c : Call) → Leaves (boardAt cells perKm (deeds cells perKm cs)) (B .step (afterIn B (B .start cells perKm) cs) c .1) c
 
@@ -58,6 +88,7 @@ told cells perKm h c =
     record {
       number = step (boardAt cells perKm (deedsOf cells perKm h)) c .1 .number;
       buffer = step (boardAt cells perKm (deedsOf cells perKm h)) c .1 .buffer;
+      taken = step (boardAt cells perKm (deedsOf cells perKm h)) c .1 .taken;
       charge = boardAt cells perKm (deedsOf cells perKm (c ∷ h)) .hire .charge;
       discharge = boardAt cells perKm (deedsOf cells perKm (c ∷ h)) .hire .discharge;
       decision = boardAt cells perKm (deedsOf cells perKm (c ∷ h)) .hire .decision;

@@ -4,6 +4,7 @@ pub mod Tick
 pub mod Registers
 pub mod Handover
 pub mod Frames
+pub mod Line
 pub mod Replies
 pub mod Promises
 pub mod Calls

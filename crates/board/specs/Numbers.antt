@@ -1,4 +1,5 @@
--- Numbers the caller gets: the table of document 01, a row each, of a call after a history of deeds on a board with those start numbers.
+-- Numbers the caller gets: the table of document 01, a row each, of a call after a history of deeds on a board with those start numbers; and
+-- the refusals of W-201.
 -- Assumes nothing.
 use mathlib.Core.Bool.{Bool, true, false, _||_, not, cond}
 use mathlib.Core.List.{List, [], _∷_}
@@ -6,6 +7,7 @@ use Prim.Native.Nat.{ℕ, _-_, _+_}
 use lib.Dec.{eqb, ltb}
 use lib.ListN.{length, take, getD}
 use Rattle.crc.specs.Crc.{crcOf}
+use Rattle.receiver.specs.Receiver.{complete}
 use Rattle.readings.specs.Readings.{wrongCells, wrongCurrent, noInternal, wrongPulses}
 use Rattle.settings.specs.declared.Settings.{Settings}
 use Rattle.pack.specs.Pack.{usableCount}
@@ -14,8 +16,8 @@ use Rattle.requests.specs.declared.Request.the-variants as request
 use Rattle.requests.specs.Requests.{le16At, hasLength, askedOf}
 use Rattle.board.specs.declared.Board.{Board}
 use Rattle.board.specs.Frames.{payloadOf, tooLong, writeNumber}
-use Rattle.board.specs.Calls.{Call, tick, frame, handover}
-use Rattle.board.specs.Account.{Deed, settingsAt, boardAt}
+use Rattle.board.specs.Calls.{Call, tick, frame, handover, offer, fetch}
+use Rattle.board.specs.Account.{Deed, settingsAt, heldAt, boardAt}
 
 -- 2: under 4 bytes, or first byte not 0xAA
 abbrev pub foreign : List ℕ → Bool
@@ -45,16 +47,14 @@ long b (request.Read q) = tooLong b q
 abbrev pub asked : List ℕ → Request
 asked s = askedOf (getD s 1 0) s
 
--- the numbers, each with whether it applies: 21 before all others, then from the lowest on
+-- the numbers of a request, each with whether it applies, from the lowest on
+abbrev pub requestRows : ℕ → ℕ → List Deed → List ℕ → List (ℕ × Bool)
+requestRows cells perKm h s =
+    (2, foreign s) ∷ (3, damaged s) ∷ (4, against (settingsAt h) s (asked s)) ∷ (5, long (boardAt cells perKm h) (asked s)) ∷ []
+
+-- the numbers of a call: 21 before all others, then from the lowest on
 unfoldable pub rows : ℕ → ℕ → List Deed → Call → List (ℕ × Bool)
-rows cells perKm h (frame s room) =
-    (21, not (usableCount cells))
-    ∷ (1, ltb room 259)
-    ∷ (2, foreign s)
-    ∷ (3, damaged s)
-    ∷ (4, against (settingsAt h) s (asked s))
-    ∷ (5, long (boardAt cells perKm h) (asked s))
-    ∷ []
+rows cells perKm h (frame s room) = (21, not (usableCount cells)) ∷ (1, ltb room 259) ∷ requestRows cells perKm h s
 rows cells perKm h (tick given r) =
     (21, not (usableCount cells))
     ∷ (11, wrongCells cells (length given))
@@ -63,6 +63,11 @@ rows cells perKm h (tick given r) =
     ∷ (14, wrongPulses perKm (r .pulses))
     ∷ []
 rows cells perKm h handover = (21, not (usableCount cells)) ∷ []
+-- 6, an offer (of no bytes too) while a frame is held
+rows cells perKm h (offer bytes) = (21, not (usableCount cells)) ∷ (6, complete (heldAt h)) ∷ []
+-- 7, a fetch with none held, after 1; else the number of the held frame
+rows cells perKm h (fetch room) =
+    (21, not (usableCount cells)) ∷ (1, ltb room 259) ∷ (7, not (complete (heldAt h))) ∷ requestRows cells perKm h (heldAt h)
 
 -- the first number that applies; 0, done, where none does
 unfoldable pub first : List (ℕ × Bool) → ℕ

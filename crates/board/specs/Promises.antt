@@ -11,12 +11,14 @@ use Rattle.events.specs.Events.{capacity, keptCount, newCount, keptOf, newOf, p
 use Rattle.readings.specs.declared.Readings.{Readings}
 use Rattle.board.specs.declared.Board.{Board}
 use Rattle.board.specs.declared.Answer.{Answer}
+use Rattle.board.specs.declared.Heard.{Heard}
 use Rattle.board.specs.declared.Shown.{Shown}
 use Rattle.board.specs.Start.{startOf}
 use Rattle.board.specs.Tick.{tickOf}
 use Rattle.board.specs.Handover.{handoverOf}
 use Rattle.board.specs.Registers.{shownAt}
 use Rattle.board.specs.Frames.{frameNumber, frameBoard, frameReply}
+use Rattle.board.specs.Line.{offerOf, fetchNumber, fetchBoard, fetchReply}
 
 -- ---- the calls
 
@@ -34,6 +36,15 @@ pub record Frames (b : Board) (s before : List ℕ) (r : Answer) (after : List �
   pub number : r .number ≡ frameNumber b s (length before)
   pub board : r .board ≡ frameBoard b s (length before)
   pub reply : after ≡ frameReply b s (length before)
+
+abbrev pub Offers : Board → List ℕ → Heard → Type 0
+Offers b bytes r = r ≡ offerOf b bytes
+
+-- a fetch, as a frame
+pub record Fetches (b : Board) (before : List ℕ) (r : Answer) (after : List ℕ) : Type 0 where
+  pub number : r .number ≡ fetchNumber b (length before)
+  pub board : r .board ≡ fetchBoard b (length before)
+  pub reply : after ≡ fetchReply b (length before)
 
 -- ---- what is read off a board
 

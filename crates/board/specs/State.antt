@@ -3,6 +3,7 @@
 -- Assumes nothing.
 use mathlib.Core.Bool.{Bool}
 use Rattle.events.specs.declared.Events.{Events}
+use Rattle.receiver.specs.declared.Receiver.{Receiver}
 use Rattle.settings.specs.declared.Settings.{Settings}
 use Rattle.statistics.specs.declared.Statistics.{Statistics}
 use Rattle.pack.specs.declared.Pack.{Pack}
@@ -29,3 +30,6 @@ withEvents b x = withHire b (hire.withEvents (b .hire) x)
 
 abbrev pub withStatistics : Board → Statistics → Board
 withStatistics b x = withHire b (hire.withStatistics (b .hire) x)
+
+abbrev pub withReceiver : Board → Receiver → Board
+withReceiver b x = withHire b (hire.withReceiver (b .hire) x)

@@ -1,6 +1,7 @@
 // The board of one pack: a state that goes in by value and comes back. It takes a tick every 100 ms, a frame for each request,
-// and a handover between two riders; what it shows can be read at any time.
+// or the bytes of the raw line as they come, and a handover between two riders; what it shows can be read at any time.
 mod frame;
+mod line;
 mod registers;
 mod tick;
 
@@ -18,6 +19,13 @@ pub struct Board {
 // What a call gives back: document 01's number, and the board after it.
 pub struct Answer {
     pub number: u8,
+    pub board: Board,
+}
+
+// What an offer gives back: its number, how many of its bytes were taken, and the board after it.
+pub struct Heard {
+    pub number: u8,
+    pub taken: usize,
     pub board: Board,
 }
 

@@ -55,7 +55,7 @@ to-800 = frame (0xAA ∷ 0x10 ∷ 0x01 ∷ 0x3C ∷ 0x00 ∷ 0x01 ∷ 0x02 ∷ 0
 
 -- of a board that shows no switch and no bit
 abbrev pub says : ℕ → List ℕ → Seen
-says number buffer = record { number = number; buffer = buffer; charge = false; discharge = false; decision = 0; balancing = 0 }
+says number buffer = record { number = number; buffer = buffer; taken = 0; charge = false; discharge = false; decision = 0; balancing = 0 }
 
 -- the n-th answer, its number, and a byte of its reply
 abbrev pub answerAt : ℕ → List Seen → Seen

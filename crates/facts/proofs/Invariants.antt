@@ -48,10 +48,11 @@ use Rattle.pack.specs.Pack.{usableCount}
 use Rattle.hire.specs.Hire.{noSensed}
 use Rattle.board.specs.Start.{startBoard}
 use Rattle.requests.specs.Requests.{inOneRange, requestOf, draftedOf, marks}
-use Rattle.board.specs.Calls.{Call, tick, frame, handover}
+use Rattle.board.specs.Calls.{Call, tick, frame, handover, offer, fetch}
 use Rattle.board.specs.Behaviour.{afterIn, board}
 use Rattle.board.specs.Demands.{deeds}
-use Rattle.board.specs.Account.{Deed, took, wrote, sent, handed, nothing, row, forgets, hands, ticking, settingsAt, secondsAt, clockAt, momentOf, momentsAt, latchedAt, waitsAt, rememberedAt, sensedOf, sensedAt, windowAt, recordedNow, keptSince, newSince, eventsAt, boardAt, requestDeed, deedOf, deedsOf}
+use Rattle.board.specs.Account.{Deed, took, wrote, row, forgets, hands, ticking, settingsAt, secondsAt, clockAt, momentOf, momentsAt, latchedAt, waitsAt, rememberedAt, sensedOf, sensedAt, windowAt, recordedNow, keptSince, newSince, eventsAt, heldAt, boardAt, deedsOf}
+use Rattle.board.proofs.Account.Deeds.{AfterOne, called-so}
 use Rattle.board.proofs.Account.Settings.{Fits, ranges, wait-some}
 use Rattle.requests.proofs.Sound.{registersOf, readsInRange, sound}
 use Rattle.board.proofs.Demands.Demand2.{account}
@@ -108,11 +109,13 @@ gathered-within (x ∷ xs) a b =
 
 -- ---- the ticks that were accepted
 
--- a tick's cells are of sixteen bits, and a frame's bytes of eight
+-- a tick's cells are of sixteen bits, and a frame's and an offer's bytes of eight
 abbrev pub TypedCall : Call → Type 0
 TypedCall (tick given r) = All (λ c. c ≤ 65535) given
 TypedCall (frame s room) = All (λ byte. byte ≤ 255) s
 TypedCall handover = Unit {0}
+TypedCall (offer bytes) = All (λ byte. byte ≤ 255) bytes
+TypedCall (fetch room) = Unit {0}
 
 abbrev pub Typed : List Call → Type 0
 Typed cs = All TypedCall cs
@@ -141,54 +144,34 @@ good count perKm t u = go (wrongCells count (length (t .0))) (wrongCurrent (t .1
 -- what follows for a tick from its number and from its call holds of all that were accepted
 module _ (cells perKm : ℕ) (Q : Call → Type 0) (P : List ℕ × Readings → Type 0)
     (law : (t : List ℕ × Readings) → Q (tick (t .0) (t .1)) → Passed cells perKm t → P t) where
-  asked : (st : Settings) (s : List ℕ) (q : Request) → All P (row (requestDeed st s q) .ticks)
-  unfolding requestDeed
-  asked st s (request.Refused refusal) = tt
-  asked st s request.ClearEvents = tt
-  asked st s request.ClearStatistics = tt
-  asked st s (request.Write from n) = go (eqb (settings.numberOf (settings.verdictOf (draftedOf (settings.draftOf st) s from n))) 0)
-    where
-      go : (t : Bool) → All P (row (cond t (wrote s from n) nothing) .ticks)
-      go true = tt
-      go false = tt
-  asked st s (request.Read q) = go (marks q)
-    where
-      go : (t : Bool) → All P (row (cond t sent nothing) .ticks)
-      go true = tt
-      go false = tt
+  module _ (reset : Deed → Bool) where
+    abbrev So : List Deed → Type 0
+    So k = All P (ticksSince reset k)
 
-  called : (h : List Deed) (c : Call) → Q c → All P (row (deedOf cells perKm h c) .ticks)
-  unfolding deedOf
-  called h (tick given r) q = go (usableCount cells) refl (eqb (numberOf (judgedOf cells perKm (length given) r)) 0) refl
-    where
-      go : (t : Bool) → usableCount cells ≡ t → (u : Bool) → eqb (numberOf (judgedOf cells perKm (length given) r)) 0 ≡ u
-          → All P (row (cond t (cond u (took given r) nothing) nothing) .ticks)
-      go true e true f = (law (given, r) q (good cells perKm (given, r) e f), tt)
-      go true e false f = tt
-      go false e u f = tt
-  called h (frame s room) q = go (usableCount cells) (ltb room 259)
-    where
-      go : (t u : Bool) → All P (row (cond t (cond u nothing (requestDeed (settingsAt h) s (requestOf s))) nothing) .ticks)
-      go true true = tt
-      go true false = asked (settingsAt h) s (requestOf s)
-      go false u = tt
-  called h handover q = go (usableCount cells)
-    where
-      go : (t : Bool) → All P (row (cond t handed nothing) .ticks)
-      go true = tt
-      go false = tt
+    more : (d : Deed) (k : List Deed) → All P (row d .ticks) → So k → So (d ∷ k)
+    more d k p ps = go (reset d)
+      where
+        go : (t : Bool) → All P (each ticking (cond t [] ((d ∷ k) ∷ since reset k)))
+        go true = tt
+        go false = all-append P (row d .ticks) (ticksSince reset k) p ps
 
-  accepted : (reset : Deed → Bool) (cs : List Call) → All Q cs → All P (ticksSince reset (deedsOf cells perKm cs))
-  unfolding deedsOf
-  accepted reset [] qs = tt
-  accepted reset (c ∷ cs) qs = more (deedOf cells perKm (deedsOf cells perKm cs) c) (deedsOf cells perKm cs) (called (deedsOf cells perKm cs) c (qs .0)) (accepted reset cs (qs .1))
-    where
-      more : (d : Deed) (h : List Deed) → All P (row d .ticks) → All P (ticksSince reset h) → All P (ticksSince reset (d ∷ h))
-      more d h p ps = go (reset d)
-        where
-          go : (t : Bool) → All P (each ticking (cond t [] ((d ∷ h) ∷ since reset h)))
-          go true = tt
-          go false = all-append P (row d .ticks) (ticksSince reset h) p ps
+    no-tick : (d : Deed) (k : List Deed) → row d .ticks ≡ [] → row d .writes ≡ [] → So k → So (d ∷ k)
+    no-tick d k e f = more d k (subst⁻¹ (All P) e tt)
+
+    accepted : (cs : List Call) → All Q cs → So (deedsOf cells perKm cs)
+    unfolding deedsOf
+    accepted [] qs = tt
+    accepted (c ∷ cs) qs = called-so cells perKm So no-tick h (accepted cs (qs .1)) c (go c (qs .0) (accepted cs (qs .1)))
+      where
+        h : List Deed
+        h = deedsOf cells perKm cs
+
+        go : (c : Call) → Q c → So h → AfterOne cells perKm So no-tick h c
+        go (tick given r) q p = λ e f. more (took given r) h (law (given, r) q (good cells perKm (given, r) e f), tt) p
+        go (frame s room) q p = λ from n e. more (wrote s from n) h tt p
+        go handover q p = tt
+        go (offer bytes) q p = tt
+        go (fetch room) q p = λ from n e. more (wrote (heldAt h) from n) h tt p
 
 -- ---- what an accepted tick has, on a board with that cell count
 
@@ -293,14 +276,28 @@ abbrev Fitting : Moment → Type 0
 Fitting m = Fits (m .settings)
 
 -- at every accepted tick the settings in force fit
-moments-fit : (cells perKm : ℕ) (cs : List Call) → All Fitting (momentsAt (deedsOf cells perKm cs))
-unfolding deedsOf
-moments-fit cells perKm [] = tt
-moments-fit cells perKm (c ∷ cs) =
-    let h = deedsOf cells perKm cs in
-    let ts = row (deedOf cells perKm h c) .ticks in
-    let fits = ranges cells perKm cs in
-    all-append Fitting (map (momentOf (settingsAt h)) ts) (momentsAt h) (all-mapped Fitting (momentOf (settingsAt h)) (λ t. fits) ts) (moments-fit cells perKm cs)
+module _ (cells perKm : ℕ) where
+  AllFit : List Deed → Type 0
+  AllFit k = All Fitting (momentsAt k)
+
+  no-moment : (d : Deed) (k : List Deed) → row d .ticks ≡ [] → row d .writes ≡ [] → AllFit k → AllFit (d ∷ k)
+  unfolding AllFit
+  no-moment d k e f p = subst⁻¹ (λ (ts : List (List ℕ × Readings)). All Fitting (map (momentOf (settingsAt k)) ts ++ momentsAt k)) e p
+
+  moments-fit : (cs : List Call) → All Fitting (momentsAt (deedsOf cells perKm cs))
+  unfolding deedsOf AllFit
+  moments-fit [] = tt
+  moments-fit (c ∷ cs) = called-so cells perKm AllFit no-moment h (moments-fit cs) c (go c (moments-fit cs))
+    where
+      h : List Deed
+      h = deedsOf cells perKm cs
+
+      go : (c : Call) → AllFit h → AfterOne cells perKm AllFit no-moment h c
+      go (tick given r) p = λ e f. (ranges cells perKm cs, p)
+      go (frame s room) p = λ from n e. p
+      go handover p = tt
+      go (offer bytes) p = tt
+      go (fetch room) p = λ from n e. p
 
 moments-short : (cells perKm : ℕ) (cs : List Call) → All Short (momentsAt (deedsOf cells perKm cs))
 moments-short cells perKm cs = all-so Short Fitting (λ m fits. setting-held (m .settings) fits .0) (momentsAt (deedsOf cells perKm cs)) (moments-fit cells perKm cs)

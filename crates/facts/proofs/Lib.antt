@@ -8,3 +8,5 @@ pub mod Unplugged
 pub mod Invariants
 pub mod ReadsBack
 pub mod Rounding
+pub mod RawLine
+pub mod Streams

@@ -9,7 +9,7 @@ use Prim.Native.Nat.{ℕ, zero, suc, _+_, _*_, _-_, _≤_, _<_}
 use native.Mathlib.Omega.{arith}
 use borrow.Author.Tests.{eqb-true, eqb-false, leb-true, ltb-true, le-leb, lt-leb}
 use lib.Dec.{eqb, leb, ltb}
-use lib.ListN.{length, getD}
+use lib.ListN.{length, take, getD}
 use Rattle.laws.specs.History.{never, since, each, headOr, newest}
 use Rattle.pairs.specs.Pairs.{lowHalf, highHalf}
 use Rattle.readings.specs.Readings as readings
@@ -34,9 +34,12 @@ use Rattle.board.specs.State.{usable}
 use Rattle.board.specs.Start.{startBoard}
 use Rattle.board.specs.Registers.{shownAt}
 use Rattle.board.specs.Frames.{valueOf, valueAt, bodyBy, bodyOf, tooLong, writeNumber, requestNumber, queryReply, requestReply, frameNumber, frameReply}
-use Rattle.board.specs.Calls.{Call, Seen, tick, frame, handover, step}
+use Rattle.board.specs.Calls.{Call, Seen, tick, frame, handover, step, offer, fetch}
 use Rattle.board.specs.Behaviour.{Behaviour, board, afterIn}
-use Rattle.board.specs.Account.{Deed, took, wrote, sent, handed, nothing, row, writing, covers, given, settingsAt, distanceAt, boardAt, requestDeed, deedOf, deedsOf}
+use Rattle.board.specs.Account.{Deed, took, wrote, row, writing, covers, given, settingsAt, distanceAt, heardAt, heldAt, boardAt, asking, deedsOf}
+use Rattle.board.proofs.Account.Deeds.{WhereAsked, any-asked, WhereDone, any-call, AfterOne, called-so}
+use Rattle.board.proofs.Account.Calls.{heard-more}
+use Rattle.receiver.specs.Heard.{begun, takes}
 use Rattle.board.specs.Demands.{deeds}
 use Rattle.board.proofs.Account.Shown.{reads-back, same-bits, distance-shown}
 use Rattle.board.proofs.Demands.Demand2.{account}
@@ -115,48 +118,73 @@ accepted-gives st s from n typed e =
         let k : 300 + from + (at - (300 + from)) ≡ at = omega arith in
         not-stray (settings.draftOf st) s from n (taken (draftedOf (settings.draftOf st) s from n) e) (at - (300 + from)) (omega arith) (ap settings.listed k ∙ u)
 
--- so every accepted write of a history
+-- the bytes of a held frame are those of offers
 module _ (cells perKm : ℕ) where
-  asked : (st : Settings) (s : List ℕ) → All (λ b. b ≤ 255) s → (q : Request) → All Gives (row (requestDeed st s q) .writes)
-  unfolding requestDeed
-  asked st s typed (request.Refused refusal) = tt
-  asked st s typed request.ClearEvents = tt
-  asked st s typed request.ClearStatistics = tt
-  asked st s typed (request.Write from n) = go (eqb (writeNumber st s from n) 0) refl
-    where
-      go : (t : Bool) → eqb (writeNumber st s from n) 0 ≡ t → All Gives (row (cond t (wrote s from n) nothing) .writes)
-      go true e = (accepted-gives st s from n typed e, tt)
-      go false e = tt
-  asked st s typed (request.Read q) = go (marks q)
-    where
-      go : (t : Bool) → All Gives (row (cond t sent nothing) .writes)
-      go true = tt
-      go false = tt
+  abbrev Bytes : List ℕ → Type 0
+  Bytes s = All (λ b. b ≤ 255) s
 
-  called : (h : List Deed) (c : Call) → TypedCall c → All Gives (row (deedOf cells perKm h c) .writes)
-  unfolding deedOf
-  called h (tick taken r) typed = go (usableCount cells) (eqb (readings.numberOf (readings.judgedOf cells perKm (length taken) r)) 0)
-    where
-      go : (t u : Bool) → All Gives (row (cond t (cond u (took taken r) nothing) nothing) .writes)
-      go true true = tt
-      go true false = tt
-      go false u = tt
-  called h (frame s room) typed = go (usableCount cells) (ltb room 259)
-    where
-      go : (t u : Bool) → All Gives (row (cond t (cond u nothing (requestDeed (settingsAt h) s (requestOf s))) nothing) .writes)
-      go true true = tt
-      go true false = asked (settingsAt h) s typed (requestOf s)
-      go false u = tt
-  called h handover typed = go (usableCount cells)
-    where
-      go : (t : Bool) → All Gives (row (cond t handed nothing) .writes)
-      go true = tt
-      go false = tt
+  all-taken : (n : ℕ) (bytes : List ℕ) → Bytes bytes → Bytes (take n bytes)
+  all-taken zero bytes p = tt
+  all-taken (suc n) [] p = tt
+  all-taken (suc n) (b ∷ bytes) p = (p .0, all-taken n bytes (p .1))
 
-  writes-give : (cs : List Call) → Typed cs → All Gives (each writing (since never (deedsOf cells perKm cs)))
+  all-begun : (bytes : List ℕ) → Bytes bytes → Bytes (begun bytes)
+  all-begun [] p = tt
+  all-begun (b ∷ bytes) p = go (eqb b 0xAA) (all-begun bytes (p .1))
+    where
+      go : (t : Bool) → Bytes (begun bytes) → Bytes (cond t (b ∷ bytes) (begun bytes))
+      go true q = p
+      go false q = q
+
+  asked-heard : (h : List Deed) → Bytes (heardAt h) → (s : List ℕ) (q : Request) → Bytes (heardAt (asking (settingsAt h) s q h))
+  unfolding heardAt
+  asked-heard h p s q = any-asked (λ k. Bytes (heardAt k)) h p (settingsAt h) s q (go q)
+    where
+      go : (q : Request) → WhereAsked (λ k. Bytes (heardAt k)) h (settingsAt h) s q
+      go (request.Refused refusal) = tt
+      go request.ClearEvents = p
+      go request.ClearStatistics = p
+      go (request.Write from n) = λ e. p
+      go (request.Read q) = p
+
+  heard-typed : (cs : List Call) → Typed cs → Bytes (heardAt (deedsOf cells perKm cs))
+  unfolding deedsOf heardAt
+  heard-typed [] typed = tt
+  heard-typed (c ∷ cs) typed = any-call (λ k. Bytes (heardAt k)) h cells perKm (heard-typed cs (typed .1)) c (go c (typed .0) (heard-typed cs (typed .1)))
+    where
+      h : List Deed
+      h = deedsOf cells perKm cs
+
+      go : (c : Call) → TypedCall c → Bytes (heardAt h) → WhereDone (λ k. Bytes (heardAt k)) h cells perKm c
+      go (tick taken r) t p = λ e f. p
+      go (frame s room) t p = asked-heard h p s (requestOf s)
+      go handover t p = tt
+      go (offer bytes) t p =
+          let n = takes (heardAt h) bytes in
+          subst⁻¹ Bytes (heard-more cells perKm h (take n bytes)) (all-append (λ b. b ≤ 255) (heardAt h) (take n bytes) p (all-taken n bytes t))
+      go (fetch room) t p = tt
+
+  -- so every accepted write of a history
+  abbrev Given : List Deed → Type 0
+  Given k = All Gives (each writing (since never k))
+
+  no-write : (d : Deed) (k : List Deed) → row d .ticks ≡ [] → row d .writes ≡ [] → Given k → Given (d ∷ k)
+  no-write d k e f p = subst⁻¹ (λ (ws : List (List ℕ × ℕ × ℕ)). All Gives (ws ++ each writing (since never k))) f p
+
+  writes-give : (cs : List Call) → Typed cs → Given (deedsOf cells perKm cs)
   unfolding deedsOf
   writes-give [] typed = tt
-  writes-give (c ∷ cs) typed = all-append Gives (row (deedOf cells perKm (deedsOf cells perKm cs) c) .writes) (each writing (since never (deedsOf cells perKm cs))) (called (deedsOf cells perKm cs) c (typed .0)) (writes-give cs (typed .1))
+  writes-give (c ∷ cs) typed = called-so cells perKm Given no-write h (writes-give cs (typed .1)) c (go c (typed .0) (writes-give cs (typed .1)))
+    where
+      h : List Deed
+      h = deedsOf cells perKm cs
+
+      go : (c : Call) → TypedCall c → Given h → AfterOne cells perKm Given no-write h c
+      go (tick taken r) t p = λ e f. p
+      go (frame s room) t p = λ from n e. (accepted-gives (settingsAt h) s from n t e, p)
+      go handover t p = tt
+      go (offer bytes) t p = tt
+      go (fetch room) t p = λ from n e. (accepted-gives (settingsAt h) (heldAt h) from n (all-begun (heardAt h) (heard-typed cs (typed .1))) e, p)
 
 -- ---- what a register reads
 

@@ -28,8 +28,9 @@ use Rattle.board.specs.declared.Shown.the-variants.{Register}
 use Rattle.board.specs.State.{usable}
 use Rattle.board.specs.Start.{startBoard}
 use Rattle.board.specs.Registers.{shownAt}
+use Rattle.board.specs.Line.{heldIn, holds, fetchReply}
 use Rattle.board.specs.Frames.{valueAt, bodyBy, tooLong, queryReply, requestReply, frameReply}
-use Rattle.board.specs.Calls.{Call, Seen, tick, frame, handover, step}
+use Rattle.board.specs.Calls.{Call, Seen, tick, frame, handover, offer, fetch, step}
 use Rattle.board.specs.Behaviour.{Behaviour, board, afterIn}
 use Rattle.board.specs.Account.{boardAt, deedsOf}
 use Rattle.board.specs.Demands.{told}
@@ -54,10 +55,16 @@ requestDown b s (request.Read q) = sealed (cond (tooLong b q) (nackOf (commandOf
 unfoldable pub replyDown : Board → List ℕ → ℕ → List ℕ
 replyDown b s room = padded room (cond (usable b) (cond (ltb room 259) [] (requestDown b s (requestOf s))) [])
 
+unfoldable pub fetchDown : Board → ℕ → List ℕ
+fetchDown b room =
+    cond (usable b) (cond (ltb room 259) (padded room []) (cond (holds b) (replyDown b (heldIn b) room) (padded room []))) (padded room [])
+
 unfoldable pub bufferDown : Board → Call → List ℕ
 bufferDown b (tick cells r) = []
 bufferDown b (frame s room) = replyDown b s room
 bufferDown b handover = []
+bufferDown b (offer bytes) = []
+bufferDown b (fetch room) = fetchDown b room
 
 -- its state is the start numbers and the calls so far, newest first; the board that the paper works out from them
 abbrev pub History : Type 0
@@ -70,7 +77,7 @@ boardIn h = boardAt (h .0) (h .1) (deedsOf (h .0) (h .1) (h .2))
 abbrev pub shownDown : History → Call → Seen
 shownDown h c =
     let a = told (h .0) (h .1) (h .2) c in
-    record { number = a .number; buffer = bufferDown (boardIn h) c; charge = a .charge; discharge = a .discharge; decision = a .decision; balancing = a .balancing }
+    record { number = a .number; buffer = bufferDown (boardIn h) c; taken = a .taken; charge = a .charge; discharge = a .discharge; decision = a .decision; balancing = a .balancing }
 
 abbrev pub roundingDown : Behaviour
 roundingDown =
@@ -83,9 +90,10 @@ roundingDown =
 
 -- ---- unchanged
 
--- the number, the switches and the bits of a call
+-- the number, the count of taken bytes, the switches and the bits of a call
 pub record Shows (a d : Seen) : Type 0 where
   pub number : a .number ≡ d .number
+  pub taken : a .taken ≡ d .taken
   pub charge : a .charge ≡ d .charge
   pub discharge : a .discharge ≡ d .discharge
   pub decision : a .decision ≡ d .decision
@@ -113,7 +121,7 @@ module _ (cells perKm : ℕ) (cs : List Call) where
       subst⁻¹ (λ (h : History). Shows (step ours c .1) (shownDown h c)) (remembered cells perKm [] cs)
       (subst⁻¹ (λ (b : Board). Shows (step b c .1) (shownDown (cells, perKm, reverse cs) c)) (account cells perKm cs)
       (subst⁻¹ (λ (a : Seen). Shows a (shownDown (cells, perKm, reverse cs) c)) (as-told cells perKm (reverse cs) c)
-      (record { number = refl; charge = refl; discharge = refl; decision = refl; balancing = refl })))
+      (record { number = refl; taken = refl; charge = refl; discharge = refl; decision = refl; balancing = refl })))
 
 -- every register but 40 and 41
 pub same-value : (b : Board) (at : ℕ) → (at ≡ 40 → ⊥) → (at ≡ 41 → ⊥) → valueDown b at ≡ valueAt b at
@@ -185,6 +193,15 @@ pub same-reply : (cells perKm : ℕ) (cs : List Call) (s : List ℕ) (room : ℕ
 unfolding step bufferDown
 same-reply cells perKm cs s room away =
     sym (same-reply-of (ours cells perKm cs) s room away) ∙ ap (λ (b : Board). replyDown b s room) (same-state cells perKm cs)
+
+-- by a fetch too
+pub same-fetched : (cells perKm : ℕ) (cs : List Call) (room : ℕ) → ((q : Query) → requestOf (heldIn (ours cells perKm cs)) ≡ request.Read q → Neither q)
+    → board .step (ours cells perKm cs) (fetch room) .1 .buffer ≡ roundingDown .step (theirs cells perKm cs) (fetch room) .1 .buffer
+unfolding step bufferDown fetchReply fetchDown
+same-fetched cells perKm cs room away =
+    ap (λ (l : List ℕ). cond (usable (ours cells perKm cs)) (cond (ltb room 259) (padded room []) (cond (holds (ours cells perKm cs)) l (padded room []))) (padded room []))
+    (sym (same-reply-of (ours cells perKm cs) (heldIn (ours cells perKm cs)) room away))
+    ∙ ap (λ (b : Board). fetchDown b room) (same-state cells perKm cs)
 
 -- ---- 0 before the first tick and after a handover, as before
 

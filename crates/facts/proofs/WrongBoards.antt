@@ -1,5 +1,5 @@
 -- The demands shut out wrong boards. Demand 1: a board that accepts everything, one that leaves a byte of the last reply behind the next,
--- one that answers 4 where 3 is due, one that answers 0 to a start of three cells. Demand 2: a board that NACKs everything, one that always replies idle, one that answers its first
+-- one that answers 4 where 3 is due, one that holds a frame still which it refused, one that answers 0 to a start of three cells. Demand 2: a board that NACKs everything, one that always replies idle, one that answers its first
 -- frame and repeats it, statistics with invented counts. Demand 3: a handover that does nothing, and one that shows the last rider's switches once more. Some of the first look the same
 -- for two riders: the ones that NACK everything or reply idle meet demand 3, so demand 3 is stated of boards that meet demand 2. And that a
 -- write and the distance read back shuts out a board that accepts a write and does not keep it, and a distance that outlives its rider.
@@ -19,7 +19,7 @@ use Rattle.board.specs.State.{withStatistics}
 use Rattle.board.specs.Start.{startBoard}
 use Rattle.board.specs.Handover.{handoverOf}
 use Rattle.wire.specs.Wire.{padded, sealed, nackOf}
-use Rattle.board.specs.Calls.{Call, Seen, seen, tick, frame, handover, step}
+use Rattle.board.specs.Calls.{Call, Seen, seen, tick, frame, handover, offer, fetch, step}
 use Rattle.board.specs.Behaviour.{Behaviour, board}
 use Rattle.board.specs.Account.{distanceAt}
 use Rattle.board.specs.Demands.{Demand1, Demand2, Demand3}
@@ -34,6 +34,8 @@ abbrev accepts : Call → Seen
 accepts (tick cells r) = says 0 []
 accepts (frame s room) = says 0 (replicate room 0x5A)
 accepts handover = says 0 []
+accepts (offer bytes) = says 0 []
+accepts (fetch room) = says 0 (replicate room 0x5A)
 
 abbrev pub accepting : Behaviour
 accepting = record { State = Unit {0}; start = λ cells perKm. tt; started = board .started; step = λ s c. (s, accepts c) }
@@ -57,8 +59,10 @@ abbrev lefts : Board × List ℕ → Call → (Board × List ℕ) × Seen
 lefts (b, last) (tick cells r) = ((step b (tick cells r) .0, last), step b (tick cells r) .1)
 lefts (b, last) (frame s room) =
     let a = step b (frame s room) .1 in
-    ((step b (frame s room) .0, over last (a .buffer)), record { number = a .number; buffer = over last (a .buffer); charge = a .charge; discharge = a .discharge; decision = a .decision; balancing = a .balancing })
+    ((step b (frame s room) .0, over last (a .buffer)), record { number = a .number; buffer = over last (a .buffer); taken = a .taken; charge = a .charge; discharge = a .discharge; decision = a .decision; balancing = a .balancing })
 lefts (b, last) handover = ((step b handover .0, last), step b handover .1)
+lefts (b, last) (offer bytes) = ((step b (offer bytes) .0, last), step b (offer bytes) .1)
+lefts (b, last) (fetch room) = ((step b (fetch room) .0, last), step b (fetch room) .1)
 
 abbrev pub leaving : Behaviour
 leaving = record { State = Board × List ℕ; start = λ cells perKm. (startBoard cells perKm, []); started = board .started; step = lefts }
@@ -68,12 +72,29 @@ pub leaving-fails : ¬ Demand1 leaving
 unfolding accounted
 leaving-fails h = let z : _≡_ {A = ℕ} 0xE3 0 = ap (λ (l : List ℕ). getD l 1 0) (h .leaves 4 2000 (events ∷ []) status .2 refl) in omega arith
 
+-- ---- a fetch that answers with a NACK, and holds the frame still
+
+abbrev holdsOn : Board → Call → Board × Seen
+holdsOn b (tick cells r) = step b (tick cells r)
+holdsOn b (frame s room) = step b (frame s room)
+holdsOn b handover = step b handover
+holdsOn b (offer bytes) = step b (offer bytes)
+holdsOn b (fetch room) = (cond (eqb (step b (fetch room) .1 .number) 0) (step b (fetch room) .0) b, step b (fetch room) .1)
+
+abbrev pub holdingOn : Behaviour
+holdingOn = record { State = Board; start = startBoard; started = board .started; step = holdsOn }
+
+-- fetched again it answers 3 again, where 7 is due
+pub holding-on-fails : ¬ Demand1 holdingOn
+unfolding accounted
+holding-on-fails h = let z : _≡_ {A = ℕ} 3 7 = h .lets-go 4 2000 (offer (0xAA ∷ 0x18 ∷ 0x7F ∷ 0x1B ∷ []) ∷ []) 259 refl .0 in omega arith
+
 -- ---- 4 where 3 is due
 
 abbrev blurs : Board → Call → Board × Seen
 blurs b c =
     let a = step b c .1 in
-    (step b c .0, record { number = cond (eqb (a .number) 3) 4 (a .number); buffer = a .buffer; charge = a .charge; discharge = a .discharge; decision = a .decision; balancing = a .balancing })
+    (step b c .0, record { number = cond (eqb (a .number) 3) 4 (a .number); buffer = a .buffer; taken = a .taken; charge = a .charge; discharge = a .discharge; decision = a .decision; balancing = a .balancing })
 
 abbrev pub blurring : Behaviour
 blurring = record { State = Board; start = startBoard; started = board .started; step = blurs }
@@ -96,6 +117,8 @@ abbrev nacks : Call → Seen
 nacks (tick cells r) = says 0 []
 nacks (frame s room) = says 4 (padded room (sealed (nackOf (getD s 1 0) 0x00)))
 nacks handover = says 0 []
+nacks (offer bytes) = says 0 []
+nacks (fetch room) = says 7 (replicate room 0)
 
 abbrev pub nacking : Behaviour
 nacking = record { State = Unit {0}; start = λ cells perKm. tt; started = λ cells perKm. 0; step = λ s c. (s, nacks c) }
@@ -114,6 +137,8 @@ abbrev idles : Call → Seen
 idles (tick cells r) = says 0 []
 idles (frame s room) = says 0 (padded room (0xAA ∷ 0x18 ∷ 0x97 ∷ 0x00 ∷ 0xCF ∷ 0xCB ∷ []))
 idles handover = says 0 []
+idles (offer bytes) = says 0 []
+idles (fetch room) = says 7 (replicate room 0)
 
 abbrev pub idling : Behaviour
 idling = record { State = Unit {0}; start = λ cells perKm. tt; started = λ cells perKm. 0; step = λ s c. (s, idles c) }
@@ -132,6 +157,8 @@ repeats (b, first) (tick cells r) = ((step b (tick cells r) .0, first), step b (
 repeats (b, []) (frame s room) = ((step b (frame s room) .0, step b (frame s room) .1 ∷ []), step b (frame s room) .1)
 repeats (b, a ∷ rest) (frame s room) = ((b, a ∷ rest), a)
 repeats (b, first) handover = ((step b handover .0, first), step b handover .1)
+repeats (b, first) (offer bytes) = ((step b (offer bytes) .0, first), step b (offer bytes) .1)
+repeats (b, first) (fetch room) = ((step b (fetch room) .0, first), step b (fetch room) .1)
 
 abbrev pub repeating : Behaviour
 repeating = record { State = Board × List Seen; start = λ cells perKm. (startBoard cells perKm, []); started = board .started; step = repeats }
@@ -167,6 +194,8 @@ abbrev keeps : Board → Call → Board × Seen
 keeps b (tick cells r) = step b (tick cells r)
 keeps b (frame s room) = step b (frame s room)
 keeps b handover = (b, seen (record { number = handoverOf b .number; board = b }) [])
+keeps b (offer bytes) = step b (offer bytes)
+keeps b (fetch room) = step b (fetch room)
 
 abbrev pub keeping : Behaviour
 keeping = record { State = Board; start = startBoard; started = board .started; step = keeps }
@@ -185,6 +214,8 @@ abbrev lingers : Board → Call → Board × Seen
 lingers b (tick cells r) = step b (tick cells r)
 lingers b (frame s room) = step b (frame s room)
 lingers b handover = (handoverOf b .board, seen (record { number = handoverOf b .number; board = b }) [])
+lingers b (offer bytes) = step b (offer bytes)
+lingers b (fetch room) = step b (fetch room)
 
 abbrev pub lingering : Behaviour
 lingering = record { State = Board; start = startBoard; started = board .started; step = lingers }
@@ -203,6 +234,8 @@ abbrev drops : Board → Call → Board × Seen
 drops b (tick cells r) = step b (tick cells r)
 drops b (frame s room) = (b, step b (frame s room) .1)
 drops b handover = step b handover
+drops b (offer bytes) = step b (offer bytes)
+drops b (fetch room) = step b (fetch room)
 
 abbrev pub dropping : Behaviour
 dropping = record { State = Board; start = startBoard; started = board .started; step = drops }

@@ -8,6 +8,8 @@ use lib.ListN.{replicate}
 use Rattle.events.specs.declared.Events.{Events}
 use Rattle.events.specs.Events.{noEvents}
 use Rattle.live.specs.Live.{noLive}
+use Rattle.receiver.specs.declared.Receiver.{Receiver}
+use Rattle.receiver.specs.Receiver.{noBytes}
 use Rattle.statistics.specs.declared.Statistics.{Statistics}
 use Rattle.statistics.specs.Statistics.{clearedAt}
 use Rattle.hire.specs.declared.Sensed.{Sensed}
@@ -34,46 +36,51 @@ newHire lifetime =
       balancing = 0;
       charge = false;
       discharge = false;
+      receiver = noBytes;
     }
 
 -- ---- a hire with one part anew
 
 abbrev pub withSensed : Hire → Sensed → Hire
 withSensed h x =
-    record { sensed = x; window = h .window; charger = h .charger; events = h .events; statistics = h .statistics; status = h .status; decision = h .decision; balancing = h .balancing; charge = h .charge; discharge = h .discharge }
+    record { sensed = x; window = h .window; charger = h .charger; events = h .events; statistics = h .statistics; status = h .status; decision = h .decision; balancing = h .balancing; charge = h .charge; discharge = h .discharge; receiver = h .receiver }
 
 abbrev pub withWindow : Hire → List ℕ → Hire
 withWindow h x =
-    record { sensed = h .sensed; window = x; charger = h .charger; events = h .events; statistics = h .statistics; status = h .status; decision = h .decision; balancing = h .balancing; charge = h .charge; discharge = h .discharge }
+    record { sensed = h .sensed; window = x; charger = h .charger; events = h .events; statistics = h .statistics; status = h .status; decision = h .decision; balancing = h .balancing; charge = h .charge; discharge = h .discharge; receiver = h .receiver }
 
 abbrev pub withCharger : Hire → Bool → Hire
 withCharger h x =
-    record { sensed = h .sensed; window = h .window; charger = x; events = h .events; statistics = h .statistics; status = h .status; decision = h .decision; balancing = h .balancing; charge = h .charge; discharge = h .discharge }
+    record { sensed = h .sensed; window = h .window; charger = x; events = h .events; statistics = h .statistics; status = h .status; decision = h .decision; balancing = h .balancing; charge = h .charge; discharge = h .discharge; receiver = h .receiver }
 
 abbrev pub withEvents : Hire → Events → Hire
 withEvents h x =
-    record { sensed = h .sensed; window = h .window; charger = h .charger; events = x; statistics = h .statistics; status = h .status; decision = h .decision; balancing = h .balancing; charge = h .charge; discharge = h .discharge }
+    record { sensed = h .sensed; window = h .window; charger = h .charger; events = x; statistics = h .statistics; status = h .status; decision = h .decision; balancing = h .balancing; charge = h .charge; discharge = h .discharge; receiver = h .receiver }
 
 abbrev pub withStatistics : Hire → Statistics → Hire
 withStatistics h x =
-    record { sensed = h .sensed; window = h .window; charger = h .charger; events = h .events; statistics = x; status = h .status; decision = h .decision; balancing = h .balancing; charge = h .charge; discharge = h .discharge }
+    record { sensed = h .sensed; window = h .window; charger = h .charger; events = h .events; statistics = x; status = h .status; decision = h .decision; balancing = h .balancing; charge = h .charge; discharge = h .discharge; receiver = h .receiver }
 
 abbrev pub withStatus : Hire → ℕ → Hire
 withStatus h x =
-    record { sensed = h .sensed; window = h .window; charger = h .charger; events = h .events; statistics = h .statistics; status = x; decision = h .decision; balancing = h .balancing; charge = h .charge; discharge = h .discharge }
+    record { sensed = h .sensed; window = h .window; charger = h .charger; events = h .events; statistics = h .statistics; status = x; decision = h .decision; balancing = h .balancing; charge = h .charge; discharge = h .discharge; receiver = h .receiver }
 
 abbrev pub withDecision : Hire → ℕ → Hire
 withDecision h x =
-    record { sensed = h .sensed; window = h .window; charger = h .charger; events = h .events; statistics = h .statistics; status = h .status; decision = x; balancing = h .balancing; charge = h .charge; discharge = h .discharge }
+    record { sensed = h .sensed; window = h .window; charger = h .charger; events = h .events; statistics = h .statistics; status = h .status; decision = x; balancing = h .balancing; charge = h .charge; discharge = h .discharge; receiver = h .receiver }
 
 abbrev pub withBalancing : Hire → ℕ → Hire
 withBalancing h x =
-    record { sensed = h .sensed; window = h .window; charger = h .charger; events = h .events; statistics = h .statistics; status = h .status; decision = h .decision; balancing = x; charge = h .charge; discharge = h .discharge }
+    record { sensed = h .sensed; window = h .window; charger = h .charger; events = h .events; statistics = h .statistics; status = h .status; decision = h .decision; balancing = x; charge = h .charge; discharge = h .discharge; receiver = h .receiver }
 
 abbrev pub withCharge : Hire → Bool → Hire
 withCharge h x =
-    record { sensed = h .sensed; window = h .window; charger = h .charger; events = h .events; statistics = h .statistics; status = h .status; decision = h .decision; balancing = h .balancing; charge = x; discharge = h .discharge }
+    record { sensed = h .sensed; window = h .window; charger = h .charger; events = h .events; statistics = h .statistics; status = h .status; decision = h .decision; balancing = h .balancing; charge = x; discharge = h .discharge; receiver = h .receiver }
 
 abbrev pub withDischarge : Hire → Bool → Hire
 withDischarge h x =
-    record { sensed = h .sensed; window = h .window; charger = h .charger; events = h .events; statistics = h .statistics; status = h .status; decision = h .decision; balancing = h .balancing; charge = h .charge; discharge = x }
+    record { sensed = h .sensed; window = h .window; charger = h .charger; events = h .events; statistics = h .statistics; status = h .status; decision = h .decision; balancing = h .balancing; charge = h .charge; discharge = x; receiver = h .receiver }
+
+abbrev pub withReceiver : Hire → Receiver → Hire
+withReceiver h x =
+    record { sensed = h .sensed; window = h .window; charger = h .charger; events = h .events; statistics = h .statistics; status = h .status; decision = h .decision; balancing = h .balancing; charge = h .charge; discharge = h .discharge; receiver = x }

@@ -3,10 +3,11 @@ mod registers;
 mod tick;
 
 ghost use mathlib.Core.Path.{_≡_};
-ghost use Rattle.hire.specs.Hire.{newHire, withEvents, withStatistics};
+ghost use Rattle.hire.specs.Hire.{newHire, withEvents, withStatistics, withReceiver};
 use cells::Extremes;
 use events::Events;
 use live::Live;
+use receiver::Receiver;
 use statistics::Statistics;
 
 // What the last tick read.
@@ -30,6 +31,7 @@ pub struct Hire {
     pub balancing: u16, // register 52
     pub charge: bool, // the switches
     pub discharge: bool,
+    pub receiver: Receiver, // what has come of a frame on the raw line
 }
 
 impl Hire {
@@ -59,6 +61,7 @@ impl Hire {
             balancing: 0,
             charge: false,
             discharge: false,
+            receiver: Receiver::none(),
         }
     }
 
@@ -77,6 +80,14 @@ impl Hire {
     {
         let mut hire = self;
         hire.statistics = statistics;
+        hire
+    }
+
+    pub fn with_receiver(self, receiver: Receiver) -> Hire
+        ensures { λ r. ⌜ r ≡ withReceiver self receiver ⌝ }
+    {
+        let mut hire = self;
+        hire.receiver = receiver;
         hire
     }
 }

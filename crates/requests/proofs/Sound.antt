@@ -1,10 +1,11 @@
--- What holds of a request whatever its bytes: the command that it is refused or answered with is its second byte, and the registers
--- that it reads lie in one range. By the tests in the definition's order.
+-- What holds of a request whatever its bytes: the command that it is refused or answered with is its second byte, the registers that it
+-- reads lie in one range, and its length is 4 to 9 + PL. By the tests in the definition's order.
 -- Assumes nothing.
 use mathlib.Core.Path.{_≡_, refl, sym, _∙_}
 use mathlib.Core.Bool.{Bool, true, false, _&&_, cond, and-eq-true-iff}
 use mathlib.Core.List.{List}
-use Prim.Native.Nat.{ℕ, _+_, _-_, _*_}
+use Prim.Native.Nat.{ℕ, _+_, _-_, _*_, _≤_}
+use native.Mathlib.Omega.{arith}
 use borrow.Author.Tests.{eqb-true}
 use lib.Dec.{eqb, leb, ltb}
 use lib.ListN.{length, take, getD}
@@ -17,7 +18,7 @@ use Rattle.requests.specs.declared.Expected.{Expected}
 use Rattle.requests.specs.declared.Refusal.the-variants.{Foreign, Damaged, Against}
 use Rattle.requests.specs.declared.Request.{Request}
 use Rattle.requests.specs.declared.Request.the-variants as request
-use Rattle.requests.specs.Requests.{be16At, le16At, expect, expectedOf, inOneRange, between, against, clearOf, blockOf, writeOf, settingsOf, fieldsOf, askedOf, requestOf, commandOf}
+use Rattle.requests.specs.Requests.{be16At, le16At, expect, expectedOf, lengthBy, inOneRange, between, against, clearOf, blockOf, writeOf, settingsOf, fieldsOf, askedOf, requestOf, commandOf}
 
 -- the command that a request is refused or answered with; c where there is none
 unfoldable pub commandIn : ℕ → Request → ℕ
@@ -71,35 +72,40 @@ asksInRange (Ask q) = inRange q
 asksInRange AskSettings = true
 asksInRange Unknown = true
 
-record Stands (c : ℕ) (e : Expected) : Type 0 where
+record Stands (c pl : ℕ) (e : Expected) : Type 0 where
   stands : byteOf c (e .command) ≡ c
   in-range : asksInRange (e .command) ≡ true
+  length : (4 ≤ e .length) × (e .length ≤ 9 + pl)
 
-byte : (k c : ℕ) (x : Expected) {y : Expected} → byteOf c (x .command) ≡ k → asksInRange (x .command) ≡ true → Stands c y → Stands c (cond (eqb c k) x y)
-byte k c x {y} p r q = go (eqb c k) refl
+byte : (k c pl : ℕ) (x : Expected) {y : Expected} → byteOf c (x .command) ≡ k → asksInRange (x .command) ≡ true → (4 ≤ x .length) × (x .length ≤ 9 + pl) → Stands c pl y → Stands c pl (cond (eqb c k) x y)
+byte k c pl x {y} p r l q = go (eqb c k) refl
   where
-    go : (t : Bool) → eqb c k ≡ t → Stands c (cond t x y)
-    go true e = record { stands = p ∙ sym (eqb-true c k e); in-range = r }
+    go : (t : Bool) → eqb c k ≡ t → Stands c pl (cond t x y)
+    go true e = record { stands = p ∙ sym (eqb-true c k e); in-range = r; length = l }
     go false e = q
 
-expected : (c rl : ℕ) → Stands c (expectedOf c rl)
+expected : (c pl : ℕ) → Stands c pl (expectedOf c pl)
 unfolding expectedOf byteOf asksInRange registersOf commandOf
-expected c rl =
-    byte 0x02 c (expect 5 Clear) refl refl
-    (byte 0x03 c (expect 8 Block) refl refl
-    (byte 0x10 c (expect (9 + 2 * rl) Write) refl refl
-    (byte 0x11 c (expect 4 (Ask NewEvents)) refl refl
-    (byte 0x12 c (expect 4 (Ask AllEvents)) refl refl
-    (byte 0x14 c (expect 4 (Ask (Live 0x14 36 2))) refl refl
-    (byte 0x15 c (expect 4 (Ask (Live 0x15 38 2))) refl refl
-    (byte 0x16 c (expect 4 (Ask (Live 0x16 41 1))) refl refl
-    (byte 0x17 c (expect 4 (Ask (Live 0x17 40 1))) refl refl
-    (byte 0x18 c (expect 4 (Ask (Live 0x18 50 1))) refl refl
-    (byte 0x19 c (expect 4 (Ask (Live 0x19 32 2))) refl refl
-    (byte 0x1B c (expect 4 (Ask Temperatures)) refl refl
-    (byte 0x1C c (expect 4 (Ask Cells)) refl refl
-    (byte 0x1D c (expect 7 AskSettings) refl refl
-    (record { stands = refl; in-range = refl }))))))))))))))
+expected c pl =
+    byte 0x02 c pl (expect 5 Clear) refl refl (omega arith, omega arith)
+    (byte 0x03 c pl (expect 8 Block) refl refl (omega arith, omega arith)
+    (byte 0x10 c pl (expect (9 + pl) Write) refl refl (omega arith, omega arith)
+    (byte 0x11 c pl (expect 4 (Ask NewEvents)) refl refl (omega arith, omega arith)
+    (byte 0x12 c pl (expect 4 (Ask AllEvents)) refl refl (omega arith, omega arith)
+    (byte 0x14 c pl (expect 4 (Ask (Live 0x14 36 2))) refl refl (omega arith, omega arith)
+    (byte 0x15 c pl (expect 4 (Ask (Live 0x15 38 2))) refl refl (omega arith, omega arith)
+    (byte 0x16 c pl (expect 4 (Ask (Live 0x16 41 1))) refl refl (omega arith, omega arith)
+    (byte 0x17 c pl (expect 4 (Ask (Live 0x17 40 1))) refl refl (omega arith, omega arith)
+    (byte 0x18 c pl (expect 4 (Ask (Live 0x18 50 1))) refl refl (omega arith, omega arith)
+    (byte 0x19 c pl (expect 4 (Ask (Live 0x19 32 2))) refl refl (omega arith, omega arith)
+    (byte 0x1B c pl (expect 4 (Ask Temperatures)) refl refl (omega arith, omega arith)
+    (byte 0x1C c pl (expect 4 (Ask Cells)) refl refl (omega arith, omega arith)
+    (byte 0x1D c pl (expect 7 AskSettings) refl refl (omega arith, omega arith)
+    (record { stands = refl; in-range = refl; length = (omega arith, omega arith) }))))))))))))))
+
+-- 4 bytes at least, and 9 + PL at most
+pub long : (c pl : ℕ) → (4 ≤ expectedOf c pl .length) × (expectedOf c pl .length ≤ 9 + pl)
+long c pl = expected c pl .length
 
 -- ---- the fields
 
@@ -136,9 +142,9 @@ fields c s Unknown e r = record { named = refl; in-range = refl }
 asked : (c : ℕ) (s : List ℕ) → Sound c (askedOf c s)
 unfolding askedOf commandIn readsInRange
 asked c s =
-    let k = expected c (getD s 5 0) in
-    both c (eqb (length s) (expectedOf c (getD s 5 0) .length)) _ (against c)
-    (λ h. fields c s (expectedOf c (getD s 5 0) .command) (k .stands) (k .in-range))
+    let k = expected c (getD s 6 0) in
+    both c (eqb (length s) (lengthBy c s)) _ (against c)
+    (λ h. fields c s (expectedOf c (getD s 6 0) .command) (k .stands) (k .in-range))
     (record { named = refl; in-range = refl })
 
 -- ---- every request
@@ -191,4 +197,4 @@ fields-ruled c s Unknown = record { ruled = refl }
 
 pub asked-ruled : (c : ℕ) (s : List ℕ) → Ruled (askedOf c s)
 unfolding isRuled askedOf
-asked-ruled c s = either (eqb (length s) (expectedOf c (getD s 5 0) .length)) _ (against c) (fields-ruled c s (expectedOf c (getD s 5 0) .command)) (record { ruled = refl })
+asked-ruled c s = either (eqb (length s) (lengthBy c s)) _ (against c) (fields-ruled c s (expectedOf c (getD s 6 0) .command)) (record { ruled = refl })

@@ -32,12 +32,13 @@ le16At bytes i = getD bytes i 0 + 256 * getD bytes (i + 1) 0
 abbrev pub expect : ℕ → Command → Expected
 expect n c = record { length = n; command = c }
 
--- the length that a command's request has, and what it asks; 0x10 is 9+2·RL bytes long
+-- the length that a command's request has, and what it asks; for 0x10 from its PL byte, 9+PL (which its fields ask to be 2·RL); 4 for an
+-- unknown command
 unfoldable pub expectedOf : ℕ → ℕ → Expected
-expectedOf command rl =
+expectedOf command pl =
     cond (eqb command 0x02) (expect 5 Clear)
     (cond (eqb command 0x03) (expect 8 Block)
-    (cond (eqb command 0x10) (expect (9 + 2 * rl) Write)
+    (cond (eqb command 0x10) (expect (9 + pl) Write)
     (cond (eqb command 0x11) (expect 4 (Ask NewEvents))
     (cond (eqb command 0x12) (expect 4 (Ask AllEvents))
     (cond (eqb command 0x14) (expect 4 (Ask (Live 0x14 36 2)))
@@ -49,7 +50,15 @@ expectedOf command rl =
     (cond (eqb command 0x1B) (expect 4 (Ask Temperatures))
     (cond (eqb command 0x1C) (expect 4 (Ask Cells))
     (cond (eqb command 0x1D) (expect 7 AskSettings)
-    (expect 0 Unknown))))))))))))))
+    (expect 4 Unknown))))))))))))))
+
+-- the length of a request of that command, and of the request that these bytes begin: it follows from the second byte, and for 0x10 from the
+-- seventh. A byte that has not come reads 0
+abbrev pub lengthBy : ℕ → List ℕ → ℕ
+lengthBy command bytes = expectedOf command (getD bytes 6 0) .length
+
+unfoldable pub lengthOf : List ℕ → ℕ
+lengthOf bytes = lengthBy (getD bytes 1 0) bytes
 
 -- a register block must lie in one range: 0 to 55, 100 to 117, or 300 to 399
 abbrev pub inOneRange : ℕ → ℕ → Bool
@@ -96,7 +105,7 @@ fieldsOf Unknown command bytes = against command
 -- what a request of that command asks, where its length is right
 unfoldable pub askedOf : ℕ → List ℕ → Request
 askedOf command bytes =
-    cond (eqb (length bytes) (expectedOf command (getD bytes 5 0) .length)) (fieldsOf (expectedOf command (getD bytes 5 0) .command) command bytes) (against command)
+    cond (eqb (length bytes) (lengthBy command bytes)) (fieldsOf (expectedOf command (getD bytes 6 0) .command) command bytes) (against command)
 
 -- under 4 bytes, or first byte not 0xAA; last two bytes are not the CRC of the rest
 unfoldable pub requestOf : List ℕ → Request

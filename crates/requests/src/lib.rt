@@ -2,7 +2,7 @@
 ghost use mathlib.Core.Path.{_≡_};
 ghost use Prim.Native.Nat.{_+_, _≤_};
 ghost use lib.ListN.{getD};
-ghost use Rattle.requests.specs.Requests.{be16At, le16At, expect, expectedOf, inOneRange, clearOf, blockOf, writeOf, kindOf, settingsOf, fieldsOf, askedOf, requestOf, refusalNumber, commandOf, hasLength, highFirst, marks, wordCount, draftedOf, writtenTo};
+ghost use Rattle.requests.specs.Requests.{be16At, le16At, expect, expectedOf, lengthOf, inOneRange, clearOf, blockOf, writeOf, kindOf, settingsOf, fieldsOf, askedOf, requestOf, refusalNumber, commandOf, hasLength, highFirst, marks, wordCount, draftedOf, writtenTo};
 use settings::Draft;
 use settings::Kind;
 use settings::Settings;
@@ -160,6 +160,13 @@ pub fn parsed(bytes: &[u8]) -> Request
     }
 }
 
+// The length of the request that these bytes begin; it is more than there is until the byte that decides it has come.
+pub fn length_of(bytes: &[u8]) -> usize
+    ensures { λ r. ⌜ (r ≡ lengthOf (now (bytes .entry))) × (r ≤ 264) ⌝ }
+{
+    expected_of(byte_at(bytes, 1), byte_at(bytes, 6)).length
+}
+
 // A write of registers, high byte first, to settings that stand: judged whole, and what then stands.
 pub fn written(settings: Settings, bytes: &[u8], from: u8, count: u8) -> Written
     ensures { λ r. ⌜ r ≡ writtenTo settings (now (bytes .entry)) from count ⌝ }
@@ -184,7 +191,7 @@ fn drafted(draft: Draft, bytes: &[u8], from: u8, count: u8) -> Draft
 fn asked(command: u8, bytes: &[u8]) -> Request
     ensures { λ r. ⌜ r ≡ askedOf command (now (bytes .entry)) ⌝ }
 {
-    let expected = expected_of(command, byte_at(bytes, 5));
+    let expected = expected_of(command, byte_at(bytes, 6));
     if bytes.len() != expected.length {
         return Request::Refused(Refusal::Against(command));
     }
@@ -193,13 +200,13 @@ fn asked(command: u8, bytes: &[u8]) -> Request
 }
 
 // The command byte decides the length and the meaning.
-fn expected_of(command: u8, rl: u8) -> Expected
-    ensures { λ r. ⌜ r ≡ expectedOf command rl ⌝ }
+fn expected_of(command: u8, pl: u8) -> Expected
+    ensures { λ r. ⌜ r ≡ expectedOf command pl ⌝ }
 {
     match command {
         0x02 => expect(5, Command::Clear),
         0x03 => expect(8, Command::Block),
-        0x10 => expect(9 + 2 * (rl as usize), Command::Write),
+        0x10 => expect(9 + (pl as usize), Command::Write),
         0x11 => expect(4, Command::Ask(Query::NewEvents)),
         0x12 => expect(4, Command::Ask(Query::AllEvents)),
         0x14 => expect(4, live(0x14, 36, 2)),
@@ -211,7 +218,7 @@ fn expected_of(command: u8, rl: u8) -> Expected
         0x1B => expect(4, Command::Ask(Query::Temperatures)),
         0x1C => expect(4, Command::Ask(Query::Cells)),
         0x1D => expect(7, Command::AskSettings),
-        _ => expect(0, Command::Unknown),
+        _ => expect(4, Command::Unknown),
     }
 }
 

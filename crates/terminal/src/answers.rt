@@ -20,6 +20,7 @@ pub(crate) struct State {
     pub need: u16,
     pub real: u16,
     pub shown: Shown,
+    pub taken: usize,
 }
 
 // The answer line of a call, after those that wait already.
@@ -41,10 +42,9 @@ pub(crate) fn put_answer(
             readings: _,
             count: _,
         } => put_told(out, said, state),
-        Call::Frame { room, count: _ } => {
-            let lent = least(room, reply.len());
-            put_framed(out, said, state, &reply[0..lent])
-        }
+        Call::Frame { room, count: _ } => put_framed(out, said, state, room, reply),
+        Call::Offer(_) => put_heard(out, said, state),
+        Call::Fetch(room) => put_framed(out, said, state, room, reply),
         Call::Handover => put_told(out, said, state),
         Call::Crc(crc) => put_crc(out, said, crc),
         Call::Register(_) => put_shown(out, said, state),
@@ -56,10 +56,18 @@ fn put_told(out: &mut [u8], said: usize, state: State) -> usize {
     put_end(out, next)
 }
 
-fn put_framed(out: &mut [u8], said: usize, state: State, reply: &[u8]) -> usize {
+fn put_framed(out: &mut [u8], said: usize, state: State, room: usize, reply: &[u8]) -> usize {
+    let lent = least(room, reply.len());
     let next = put_state(out, said, state);
-    let bytes = put_reply(out, next, reply);
+    let bytes = put_reply(out, next, &reply[0..lent]);
     put_end(out, bytes)
+}
+
+fn put_heard(out: &mut [u8], said: usize, state: State) -> usize {
+    let next = put_state(out, said, state);
+    let space = put(out, next, SPACE);
+    let taken = put_count(out, space, state.taken);
+    put_end(out, taken)
 }
 
 fn put_end(out: &mut [u8], at: usize) -> usize {
@@ -115,5 +123,9 @@ fn put_reply(out: &mut [u8], at: usize, reply: &[u8]) -> usize {
     let bytes = put_bytes(out, at, &reply[0..said]);
     let space = put(out, bytes, SPACE);
     let plus = put(out, space, b'+');
-    put_decimal(out, plus, least(reply.len() - said, 65535) as u16)
+    put_count(out, plus, reply.len() - said)
+}
+
+fn put_count(out: &mut [u8], at: usize, count: usize) -> usize {
+    put_decimal(out, at, least(count, 65535) as u16)
 }

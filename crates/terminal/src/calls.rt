@@ -27,6 +27,8 @@ pub(crate) enum Call {
     Start { cells: u8, per_km: u16 },
     Tick { readings: Readings, count: usize },
     Frame { room: usize, count: usize },
+    Offer(usize),
+    Fetch(usize),
     Handover,
     Crc(u16),
     Register(u16),
@@ -55,6 +57,14 @@ fn named_call(line: &[u8], at: usize, request: &mut [u8], voltages: &mut [u16]) 
     let frame = after_word(line, at, b"frame");
     if 0 < frame {
         return frame_call(line, frame, request);
+    }
+    let offer = after_word(line, at, b"offer");
+    if 0 < offer {
+        return offer_call(line, offer, request);
+    }
+    let fetch = after_word(line, at, b"fetch");
+    if 0 < fetch {
+        return fetch_call(line, fetch);
     }
     let start = after_word(line, at, b"start");
     if 0 < start {
@@ -129,6 +139,22 @@ fn frame_call(line: &[u8], from: usize, request: &mut [u8]) -> Call {
         room: room.value as usize,
         count,
     }
+}
+
+fn offer_call(line: &[u8], from: usize, request: &mut [u8]) -> Call {
+    let given = bytes(line, from, request);
+    match given {
+        Series::Of(count) => Call::Offer(count),
+        Series::Wrong => Call::Wrong,
+    }
+}
+
+fn fetch_call(line: &[u8], from: usize) -> Call {
+    let room = number(line, from, MOST_ROOM as u32);
+    if room.good & is_last(line, room.next) {
+        return Call::Fetch(room.value as usize);
+    }
+    Call::Wrong
 }
 
 fn handover_call(line: &[u8], from: usize) -> Call {

@@ -14,6 +14,7 @@ use crate::calls::call_of;
 use crate::calls::least;
 use board::Answer;
 use board::Board;
+use board::Heard;
 use board::Shown;
 use text::LF;
 use text::appended;
@@ -63,7 +64,7 @@ fn answer_all(
     reply: &mut [u8],
     out: &mut [u8],
 ) {
-    let mut answer = Board::start(0, 0);
+    let mut answer = told(Board::start(0, 0));
     let mut held = 0;
     let mut turns = u64::MAX;
     let mut count = block_read(prompts, block);
@@ -83,7 +84,7 @@ fn answer_all(
         count = block_read(prompts, block);
         turns -= 1;
     }
-    last_answered(answer, line, held, request, voltages, reply, out);
+    block_answered(answer, b"\r\n", line, held, request, voltages, reply, out);
 }
 
 // One read; 0 at the end of the input, or where it cannot be read.
@@ -97,7 +98,7 @@ fn block_read(prompts: bool, block: &mut [u8]) -> usize {
 
 // Every line that the block ends; of the first of them so many bytes are held.
 fn block_answered(
-    mut answer: Answer,
+    mut answer: Heard,
     block: &[u8],
     line: &mut [u8],
     mut held: usize,
@@ -105,7 +106,7 @@ fn block_answered(
     voltages: &mut [u16],
     reply: &mut [u8],
     out: &mut [u8],
-) -> Answer {
+) -> Heard {
     let mut said = 0;
     let mut from = 0;
     let mut end = line_end(block, from);
@@ -167,47 +168,53 @@ fn whole_call(line: &[u8], request: &mut [u8], voltages: &mut [u16]) -> Call {
     call_of(&line[0..length], request, voltages)
 }
 
-// The last line, where it lacks its end; a CR there is a byte of it.
-fn last_answered(
-    before: Answer,
-    line: &[u8],
-    held: usize,
-    request: &mut [u8],
-    voltages: &mut [u16],
-    reply: &mut [u8],
-    out: &mut [u8],
-) {
-    let whole = least(held, line.len());
-    let call = call_of(&line[0..whole], request, voltages);
-    let answer = made(before, call, request, voltages, reply);
-    let said = put_answer(out, 0, call, state_of(answer, call), reply);
-    written(out, said);
-}
-
 // A call that is made on the board; a line that is none leaves it alone.
-fn made(before: Answer, call: Call, request: &[u8], voltages: &[u16], reply: &mut [u8]) -> Answer {
+fn made(before: Heard, call: Call, request: &[u8], voltages: &[u16], reply: &mut [u8]) -> Heard {
     match call {
         Call::Nothing => before,
         Call::Wrong => before,
-        Call::Start { cells, per_km } => Board::start(cells, per_km),
+        Call::Start { cells, per_km } => told(Board::start(cells, per_km)),
         Call::Tick { readings, count } => {
             let given = least(count, voltages.len());
-            before.board.tick(&voltages[0..given], readings)
+            told(before.board.tick(&voltages[0..given], readings))
         }
         Call::Frame { room, count } => {
             let length = least(count, request.len());
             let lent = least(room, reply.len());
-            framed(before, &request[0..length], &mut reply[0..lent])
+            told(framed(before, &request[0..length], &mut reply[0..lent]))
         }
-        Call::Handover => before.board.handover(),
+        Call::Offer(count) => {
+            let length = least(count, request.len());
+            before.board.offer(&request[0..length])
+        }
+        Call::Fetch(room) => {
+            let lent = least(room, reply.len());
+            told(fetched(before, &mut reply[0..lent]))
+        }
+        Call::Handover => told(before.board.handover()),
         Call::Crc(_) => before,
         Call::Register(_) => before,
     }
 }
 
-fn framed(before: Answer, request: &[u8], reply: &mut [u8]) -> Answer {
+// An answer that takes no bytes.
+fn told(answer: Answer) -> Heard {
+    let board = answer.board;
+    Heard {
+        number: answer.number,
+        taken: 0,
+        board,
+    }
+}
+
+fn framed(before: Heard, request: &[u8], reply: &mut [u8]) -> Answer {
     fill(reply);
     before.board.frame(request, reply)
+}
+
+fn fetched(before: Heard, reply: &mut [u8]) -> Answer {
+    fill(reply);
+    before.board.fetch(reply)
 }
 
 fn fill(reply: &mut [u8]) {
@@ -219,7 +226,7 @@ fn fill(reply: &mut [u8]) {
 }
 
 // What is shown after a call.
-fn state_of(answer: Answer, call: Call) -> State {
+fn state_of(answer: Heard, call: Call) -> State {
     State {
         number: answer.number,
         charge: answer.board.charge_switch(),
@@ -227,11 +234,12 @@ fn state_of(answer: Answer, call: Call) -> State {
         need: answer.board.decision_bits(),
         real: answer.board.balancing_bits(),
         shown: shown_of(answer, call),
+        taken: answer.taken,
     }
 }
 
 // The register that a call asks for.
-fn shown_of(answer: Answer, call: Call) -> Shown {
+fn shown_of(answer: Heard, call: Call) -> Shown {
     match call {
         Call::Register(at) => answer.board.register(at),
         _ => Shown::Nothing,

@@ -7,9 +7,7 @@ use Prim.Native.Nat.{ℕ, zero, suc, _+_, _*_, _-_, _≤_}
 use native.Mathlib.Omega.{arith}
 use borrow.Author.Tests.{eqb-true, eqb-false, leb-true, ltb-true, ltb-false, lt-ltb, le-ltb, le-leb}
 use lib.Dec.{eqb, leb, ltb}
-use lib.ListN.{length}
 use Rattle.laws.specs.History.{never, since, each, headOr, newest}
-use Rattle.readings.specs.Readings as readings
 use Rattle.settings.specs.declared.Settings.{Settings}
 use Rattle.settings.specs.declared.Verdict.the-variants.{Taken, OutOfRange, OutOfOrder}
 use Rattle.settings.specs.declared.Draft.{Draft}
@@ -18,9 +16,9 @@ use Rattle.signed.specs.Signed.{fromBits}
 use Rattle.requests.specs.declared.Request.{Request}
 use Rattle.requests.specs.declared.Request.the-variants as request
 use Rattle.requests.specs.Requests.{be16At, requestOf, draftedOf, marks}
-use Rattle.pack.specs.Pack.{usableCount}
-use Rattle.board.specs.Calls.{Call, tick, frame, handover}
-use Rattle.board.specs.Account.{Deed, took, wrote, cleared, forgot, sent, handed, nothing, row, writing, covers, given, lastWritten, settingsAt, requestDeed, deedOf, deedsOf}
+use Rattle.board.specs.Calls.{Call, tick, frame, handover, offer, fetch}
+use Rattle.board.specs.Account.{Deed, took, wrote, cleared, forgot, sent, handed, heard, fetched, row, writing, covers, given, lastWritten, settingsAt, heldAt, asking, calling, deedsOf}
+use Rattle.board.proofs.Account.Deeds.{WhereAsked, any-asked, WhereDone, any-call}
 
 -- a register that is put one by one, as a write covers it
 module _ {R : Type 0} (field : Settings → R) (register : ℕ) (value : ℕ → R)
@@ -105,7 +103,8 @@ unwritten cleared h e = refl
 unwritten forgot h e = refl
 unwritten sent h e = refl
 unwritten handed h e = refl
-unwritten nothing h e = refl
+unwritten (heard bytes) h e = refl
+unwritten fetched h e = refl
 
 -- each in its range, and 316 ≤ 301 < 315
 abbrev pub Fits : Settings → Type 0
@@ -124,42 +123,28 @@ taken d = go (d .stray) (settings.inRange (d .drafted)) (settings.ordered (d .dr
 
 module _ (h : List Deed) (fits : Fits (settingsAt h)) where
   -- so does what any request does
-  asked : (s : List ℕ) (q : Request) → Fits (settingsAt (requestDeed (settingsAt h) s q ∷ h))
-  unfolding requestDeed settingsAt
-  asked s (request.Refused refusal) = fits
-  asked s request.ClearEvents = fits
-  asked s request.ClearStatistics = fits
-  asked s (request.Write from n) = go (eqb (settings.numberOf (settings.verdictOf (draftedOf (settings.draftOf (settingsAt h)) s from n))) 0) refl
+  asked : (s : List ℕ) (q : Request) → Fits (settingsAt (asking (settingsAt h) s q h))
+  unfolding settingsAt
+  asked s q = any-asked (λ k. Fits (settingsAt k)) h fits (settingsAt h) s q (go q)
     where
-      go : (t : Bool) → eqb (settings.numberOf (settings.verdictOf (draftedOf (settings.draftOf (settingsAt h)) s from n))) 0 ≡ t → Fits (settingsAt (cond t (wrote s from n) nothing ∷ h))
-      go true e = subst⁻¹ Fits (written s from n h) (taken (draftedOf (settings.draftOf (settingsAt h)) s from n) e)
-      go false e = fits
-  asked s (request.Read q) = go (marks q)
-    where
-      go : (t : Bool) → Fits (settingsAt (cond t sent nothing ∷ h))
-      go true = fits
-      go false = fits
+      go : (q : Request) → WhereAsked (λ k. Fits (settingsAt k)) h (settingsAt h) s q
+      go (request.Refused refusal) = tt
+      go request.ClearEvents = fits
+      go request.ClearStatistics = fits
+      go (request.Write from n) = λ e. subst⁻¹ Fits (written s from n h) (taken (draftedOf (settings.draftOf (settingsAt h)) s from n) e)
+      go (request.Read q) = fits
 
   -- and any call
-  called : (cells perKm : ℕ) (c : Call) → Fits (settingsAt (deedOf cells perKm h c ∷ h))
-  unfolding deedOf settingsAt
-  called cells perKm (tick given r) = go (usableCount cells) (eqb (readings.numberOf (readings.judgedOf cells perKm (length given) r)) 0)
+  called : (cells perKm : ℕ) (c : Call) → Fits (settingsAt (calling cells perKm h c))
+  unfolding settingsAt
+  called cells perKm c = any-call (λ k. Fits (settingsAt k)) h cells perKm fits c (go c)
     where
-      go : (t u : Bool) → Fits (settingsAt (cond t (cond u (took given r) nothing) nothing ∷ h))
-      go true true = fits
-      go true false = fits
-      go false u = fits
-  called cells perKm (frame s room) = go (usableCount cells) (ltb room 259)
-    where
-      go : (t u : Bool) → Fits (settingsAt (cond t (cond u nothing (requestDeed (settingsAt h) s (requestOf s))) nothing ∷ h))
-      go true true = fits
-      go true false = asked s (requestOf s)
-      go false u = fits
-  called cells perKm handover = go (usableCount cells)
-    where
-      go : (t : Bool) → Fits (settingsAt (cond t handed nothing ∷ h))
-      go true = fits
-      go false = fits
+      go : (c : Call) → WhereDone (λ k. Fits (settingsAt k)) h cells perKm c
+      go (tick given r) = λ e f. fits
+      go (frame s room) = asked s (requestOf s)
+      go handover = fits
+      go (offer bytes) = fits
+      go (fetch room) = asked (heldAt h) (requestOf (heldAt h))
 
 pub ranges : (cells perKm : ℕ) (cs : List Call) → Fits (settingsAt (deedsOf cells perKm cs))
 unfolding deedsOf settingsAt settings.inRange settings.noneBelow settings.ordered

@@ -30,7 +30,7 @@ use Rattle.board.specs.Start.{startBoard}
 use Rattle.board.specs.Calls.{Call}
 use Rattle.board.specs.Behaviour.{afterIn, board}
 use Rattle.board.specs.Demands.{deeds}
-use Rattle.board.specs.Account.{Deed, took, wrote, cleared, forgot, sent, handed, nothing, row, forgets, writing, covers, given, settingsAt, latchedAt, chargeAt, dischargeAt, recordedNow, keptSince, newSince, eventsAt, pulsesAt, statisticsAt, distanceAt, boardAt}
+use Rattle.board.specs.Account.{Deed, took, wrote, cleared, forgot, sent, handed, heard, fetched, row, forgets, writing, covers, given, settingsAt, latchedAt, chargeAt, dischargeAt, recordedNow, keptSince, newSince, eventsAt, pulsesAt, statisticsAt, distanceAt, boardAt}
 use Rattle.board.proofs.Account.Settings.{Fits, ranges}
 use Rattle.board.proofs.Demands.Demand2.{account}
 
@@ -118,7 +118,8 @@ charge-off (cleared ∷ h) c p q = charge-off h c p q
 charge-off (forgot ∷ h) c p q = charge-off h c p q
 charge-off (sent ∷ h) c p q = charge-off h c p q
 charge-off (handed ∷ h) c p q = refl
-charge-off (nothing ∷ h) c p q = charge-off h c p q
+charge-off (heard bytes ∷ h) c p q = charge-off h c p q
+charge-off (fetched ∷ h) c p q = charge-off h c p q
 
 pub discharge-off : (h : List Deed) (c : Condition) → is (latchedAt h) c ≡ true → namesDischarge c ≡ true → dischargeAt h ≡ false
 unfolding dischargeAt latchedAt
@@ -129,7 +130,8 @@ discharge-off (cleared ∷ h) c p q = discharge-off h c p q
 discharge-off (forgot ∷ h) c p q = discharge-off h c p q
 discharge-off (sent ∷ h) c p q = discharge-off h c p q
 discharge-off (handed ∷ h) c p q = refl
-discharge-off (nothing ∷ h) c p q = discharge-off h c p q
+discharge-off (heard bytes ∷ h) c p q = discharge-off h c p q
+discharge-off (fetched ∷ h) c p q = discharge-off h c p q
 
 -- ---- the same of the board after any calls
 

@@ -1,7 +1,7 @@
 -- Demand 1. Any bytes, readings or settings may arrive; each call answers and ends. Bad input gets its number, changes no state, and
 -- leaves the named NACK or zeros. Nothing lent earlier survives past the end of a reply.
 -- Assumes nothing.
-use mathlib.Core.Path.{_≡_, refl, sym, ap, _∙_, subst, subst⁻¹}
+use mathlib.Core.Path.{_≡_, refl, sym, ap, ap₂, _∙_, subst, subst⁻¹}
 use mathlib.Core.Bool.{Bool, true, false, _||_, not, cond, false≢true}
 use mathlib.Core.List.{List, [], _∷_, _++_}
 use Prim.Native.Nat.{ℕ, _+_, _-_, _≤_}
@@ -15,6 +15,11 @@ use Rattle.crc.specs.Crc.{crcOf}
 use Rattle.readings.specs.declared.Judged.the-variants.{Good, WrongCells, WrongCurrent, NoInternal, WrongPulses}
 use Rattle.readings.specs.Readings.{wrongCells, wrongCurrent, noInternal, wrongPulses}
 use Rattle.readings.specs.Readings as readings
+use Rattle.receiver.specs.declared.Receiver.{Receiver}
+use Rattle.receiver.specs.Receiver.{noBytes, complete, isHeld, offeredOf}
+use Rattle.receiver.specs.Heard.{afterHearing}
+use Rattle.receiver.proofs.Heard.{held, is-held, ours}
+use Rattle.receiver.proofs.Through.{none-held}
 use Rattle.settings.specs.declared.Verdict.{Verdict}
 use Rattle.settings.specs.declared.Verdict.the-variants.{Taken, OutOfRange, OutOfOrder}
 use Rattle.settings.specs.Settings as settings
@@ -22,7 +27,8 @@ use Rattle.board.specs.declared.Board.{Board}
 use Rattle.requests.specs.declared.Refusal.the-variants.{Foreign, Damaged, Against}
 use Rattle.requests.specs.declared.Request.{Request}
 use Rattle.requests.specs.declared.Request.the-variants as request
-use Rattle.board.specs.State.{usable}
+use Rattle.board.specs.State.{usable, withReceiver}
+use Rattle.board.specs.Line.{heldIn, holds, letGo, offerOf, fetchNumber, fetchBoard, fetchReply}
 use Rattle.board.specs.Tick.{tickOf, tickedOf}
 use Rattle.pack.specs.Pack.{usableCount, newPack, tickNumber}
 use Rattle.board.specs.Start.{startBoard}
@@ -30,13 +36,14 @@ use Rattle.board.specs.Handover.{handoverOf, handedOver}
 use Rattle.requests.specs.Requests.{le16At, askedOf, requestOf, refusalNumber, commandOf, writtenTo}
 use Rattle.wire.specs.Wire.{be16, sealed, padded, nackOf}
 use Rattle.board.specs.Frames.{bodyOf, tooLong, requestNumber, changedBy, requestBoard, refusalReply, writeReply, queryReply, requestReply, frameNumber, frameBoard, frameReply}
-use Rattle.board.specs.Calls.{Call, Seen, step, tick, frame, handover}
-use Rattle.board.specs.Behaviour.{Behaviour, board, afterIn}
-use Rattle.board.specs.Account.{Deed, settingsAt, boardAt}
-use Rattle.board.specs.Numbers.{against, long, asked, rows, first, numberAt, replyBytes}
-use Rattle.board.specs.Demands.{deeds, refusedBuffer, Leaves, Demand1}
+use Rattle.board.specs.Calls.{Call, Seen, step, tick, frame, handover, offer, fetch}
+use Rattle.board.specs.Behaviour.{Behaviour, board, afterIn, answersIn}
+use Rattle.board.specs.Account.{Deed, settingsAt, heardAt, heldAt, boardAt}
+use Rattle.board.specs.Numbers.{damaged, against, long, asked, requestRows, rows, first, numberAt, replyBytes}
+use Rattle.board.specs.Demands.{deeds, refusedBuffer, Leaves, nacks, Demand1}
 use Rattle.requests.proofs.Sound.{commandIn, sound, isRuled, asked-ruled}
 use Rattle.board.proofs.Replies.{reply-length, reply-bytes}
+use Rattle.board.proofs.Deaf.{alike}
 use Rattle.board.proofs.Demands.Demand2.{account}
 
 -- ---- a refused call leaves the board as it was
@@ -46,20 +53,70 @@ unchanged : (n : ℕ) (b b′ : Board) (t : Bool) → eqb n 0 ≡ t → (n ≡ 0
 unchanged n b b′ true e h = absurd (h (eqb-true n 0 e))
 unchanged n b b′ false e h = refl
 
-pub refused : (b : Board) (c : Call) → (step b c .1 .number ≡ 0 → ⊥) → step b c .0 ≡ b
-unfolding step tickOf handoverOf frameNumber frameBoard requestBoard
-refused b (tick cells r) h = unchanged (tickNumber (b .pack) r (length cells)) b (tickedOf b cells r) (eqb (tickNumber (b .pack) r (length cells)) 0) refl h
-refused b (frame s room) h = go (usable b) (ltb room 259) h
+-- a request that is refused leaves it
+request-refused : (b : Board) (s : List ℕ) → (requestNumber b s (requestOf s) ≡ 0 → ⊥) → requestBoard b s (requestOf s) ≡ b
+unfolding requestBoard
+request-refused b s h = unchanged (requestNumber b s (requestOf s)) b (changedBy b s (requestOf s)) (eqb (requestNumber b s (requestOf s)) 0) refl h
+
+-- a request's number is 0, 2, or that of a NACK
+nacked-number : (b : Board) (s : List ℕ) (q : Request) → (requestNumber b s q ≡ 0 → ⊥) → (requestNumber b s q ≡ 2 → ⊥)
+    → (eqb (requestNumber b s q) 3 || eqb (requestNumber b s q) 4 || eqb (requestNumber b s q) 5) ≡ true
+unfolding requestNumber refusalNumber settings.numberOf
+nacked-number b s (request.Refused Foreign) h k = absurd (k refl)
+nacked-number b s (request.Refused (Damaged command)) h k = refl
+nacked-number b s (request.Refused (Against command)) h k = refl
+nacked-number b s request.ClearEvents h k = absurd (h refl)
+nacked-number b s request.ClearStatistics h k = absurd (h refl)
+nacked-number b s (request.Write from n) h k = go (writtenTo (b .pack .settings) s from n .verdict) h
+  where
+    go : (v : Verdict) → (settings.numberOf v ≡ 0 → ⊥) → (eqb (settings.numberOf v) 3 || eqb (settings.numberOf v) 4 || eqb (settings.numberOf v) 5) ≡ true
+    go Taken h = absurd (h refl)
+    go OutOfRange h = refl
+    go OutOfOrder h = refl
+nacked-number b s (request.Read q) h k = go (tooLong b q) h
+  where
+    go : (t : Bool) → (_≡_ {A = ℕ} (cond t 5 0) 0 → ⊥) → (eqb (cond t 5 0) 3 || eqb (cond t 5 0) 4 || eqb (cond t 5 0) 5) ≡ true
+    go true h = refl
+    go false h = absurd (h refl)
+
+-- of a board that holds no frame but its own
+pub refused : (b : Board) (c : Call) → ((room : ℕ) → fetchNumber b room ≡ 2 → ⊥) → (step b c .1 .number ≡ 0 → ⊥) → nacks c (step b c .1 .number) ≡ false → step b c .0 ≡ b
+unfolding step tickOf handoverOf frameNumber frameBoard offerOf offeredOf fetchNumber fetchBoard
+refused b (tick cells r) own h k = unchanged (tickNumber (b .pack) r (length cells)) b (tickedOf b cells r) (eqb (tickNumber (b .pack) r (length cells)) 0) refl h
+refused b (frame s room) own h k = go (usable b) (ltb room 259) h
   where
     go : (u t : Bool) → (cond u (cond t 1 (requestNumber b s (requestOf s))) 21 ≡ 0 → ⊥) → cond u (cond t b (requestBoard b s (requestOf s))) b ≡ b
     go true true h = refl
-    go true false h = unchanged (requestNumber b s (requestOf s)) b (changedBy b s (requestOf s)) (eqb (requestNumber b s (requestOf s)) 0) refl h
+    go true false h = request-refused b s h
     go false t h = refl
-refused b handover h = go (usable b) h
+refused b handover own h k = go (usable b) h
   where
     go : (u : Bool) → (_≡_ {A = ℕ} (cond u 0 21) 0 → ⊥) → cond u (handedOver b) b ≡ b
     go true h = absurd (h refl)
     go false h = refl
+refused b (offer bytes) own h k = go (usable b) (holds b) refl h
+  where
+    r : Receiver
+    r = b .hire .receiver
+
+    go : (u t : Bool) → isHeld r ≡ t → (cond u (offeredOf r bytes .number) 21 ≡ 0 → ⊥) → cond u (withReceiver b (offeredOf r bytes .receiver)) b ≡ b
+    go true true e h = rw e refl
+    go true false e h = absurd (h (rw e refl))
+    go false t e h = refl
+refused b (fetch room) own h k = go (usable b) (ltb room 259) (holds b) (own room) h k
+  where
+    s : List ℕ
+    s = heldIn b
+
+    number : Bool → Bool → Bool → ℕ
+    number u t v = cond u (cond t 1 (cond v (cond u (cond t 1 (requestNumber b s (requestOf s))) 21) 7)) 21
+
+    go : (u t v : Bool) → (number u t v ≡ 2 → ⊥) → (number u t v ≡ 0 → ⊥) → (eqb (number u t v) 3 || eqb (number u t v) 4 || eqb (number u t v) 5) ≡ false
+        → cond u (cond t b (cond v (letGo (cond u (cond t b (requestBoard b s (requestOf s))) b)) b)) b ≡ b
+    go true true v o h k = refl
+    go true false true o h k = absurd (false≢true (sym k ∙ nacked-number b s (requestOf s) h o))
+    go true false false o h k = refl
+    go false t v o h k = refl
 
 -- ---- what a refusal leaves of the buffer
 
@@ -116,8 +173,26 @@ asked-number b s (request.Write from n) e = go (writtenTo (b .pack .settings) s 
 asked-number b s (request.Read q) e = refl
 
 module _ (cells perKm : ℕ) (h : List Deed) where
+  request-tabled : (s : List ℕ) → requestNumber (boardAt cells perKm h) s (requestOf s) ≡ first (requestRows cells perKm h s)
+  unfolding first requestOf requestNumber refusalNumber boardAt
+  request-tabled s = go (ltb (length s) 4) (eqb (getD s 0 0) 0xAA) (eqb (crcOf (take (length s - 2) s)) (le16At s (length s - 2)))
+    where
+      b : Board
+      b = boardAt cells perKm h
+
+      c : ℕ
+      c = getD s 1 0
+
+      go : (f a v : Bool)
+          → requestNumber b s (cond f (request.Refused Foreign) (cond a (cond v (askedOf c s) (request.Refused (Damaged c))) (request.Refused Foreign)))
+          ≡ cond (f || not a) 2 (cond (not v) 3 (cond (against (settingsAt h) s (askedOf c s)) 4 (cond (long b (askedOf c s)) 5 0)))
+      go true a v = refl
+      go false false v = refl
+      go false true false = refl
+      go false true true = asked-number b s (askedOf c s) (asked-ruled c s .ruled)
+
   tabled : (c : Call) → step (boardAt cells perKm h) c .1 .number ≡ numberAt cells perKm h c
-  unfolding step numberAt rows first tickOf tickNumber handoverOf frameNumber requestOf requestNumber refusalNumber boardAt readings.judgedOf readings.numberOf
+  unfolding step numberAt rows first tickOf tickNumber handoverOf frameNumber offerOf offeredOf fetchNumber boardAt readings.judgedOf readings.numberOf
   tabled (tick given r) = go (usableCount cells) (wrongCells cells (length given)) (wrongCurrent (r .current)) (noInternal (r .internal)) (wrongPulses perKm (r .pulses))
     where
       go : (u a b c d : Bool) → cond u (readings.numberOf (cond a WrongCells (cond b WrongCurrent (cond c NoInternal (cond d WrongPulses Good))))) 21
@@ -128,28 +203,56 @@ module _ (cells perKm : ℕ) (h : List Deed) where
       go true false false true d = refl
       go true false false false true = refl
       go true false false false false = refl
-  tabled (frame s room) = go (usableCount cells) (ltb room 259) (ltb (length s) 4) (eqb (getD s 0 0) 0xAA) (eqb (crcOf (take (length s - 2) s)) (le16At s (length s - 2)))
+  tabled (frame s room) = ap (λ n. cond (usableCount cells) (cond (ltb room 259) 1 n) 21) (request-tabled s) ∙ go (usableCount cells) (first (requestRows cells perKm h s))
     where
-      b : Board
-      b = boardAt cells perKm h
-
-      c : ℕ
-      c = getD s 1 0
-
-      go : (u t f a v : Bool)
-          → cond u (cond t 1 (requestNumber b s (cond f (request.Refused Foreign) (cond a (cond v (askedOf c s) (request.Refused (Damaged c))) (request.Refused Foreign))))) 21
-          ≡ cond (not u) 21 (cond t 1 (cond (f || not a) 2 (cond (not v) 3 (cond (against (settingsAt h) s (askedOf c s)) 4 (cond (long b (askedOf c s)) 5 0)))))
-      go false t f a v = refl
-      go true true f a v = refl
-      go true false true a v = refl
-      go true false false false v = refl
-      go true false false true false = refl
-      go true false false true true = asked-number b s (askedOf c s) (asked-ruled c s .ruled)
+      go : (u : Bool) (n : ℕ) → cond u (cond (ltb room 259) 1 n) 21 ≡ cond (not u) 21 (cond (ltb room 259) 1 n)
+      go true n = refl
+      go false n = refl
   tabled handover = go (usableCount cells)
     where
       go : (u : Bool) → _≡_ {A = ℕ} (cond u 0 21) (cond (not u) 21 0)
       go true = refl
       go false = refl
+  tabled (offer bytes) = go (usableCount cells) (isHeld r) refl ∙ ap (λ (u : Bool). cond (not (usableCount cells)) 21 (cond u 6 0)) (is-held (heardAt h))
+    where
+      r : Receiver
+      r = afterHearing (heardAt h)
+
+      go : (t u : Bool) → isHeld r ≡ u → cond t (offeredOf r bytes .number) 21 ≡ cond (not t) 21 (cond u 6 0)
+      go true true e = rw e refl
+      go true false e = rw e refl
+      go false u e = refl
+  tabled (fetch room) =
+      ap₂ (λ (v : Bool) (s : List ℕ). cond (usableCount cells) (cond (ltb room 259) 1 (cond v (cond (usableCount cells) (cond (ltb room 259) 1 (requestNumber (boardAt cells perKm h) s (requestOf s))) 21) 7)) 21) (is-held (heardAt h)) (held (heardAt h))
+      ∙ go (usableCount cells) (ltb room 259) (complete (heldAt h)) (request-tabled (heldAt h))
+    where
+      go : (t u v : Bool) {n m : ℕ} → n ≡ m → cond t (cond u 1 (cond v (cond t (cond u 1 n) 21) 7)) 21 ≡ cond (not t) 21 (cond u 1 (cond (not v) 7 m))
+      go true true v e = refl
+      go true false true e = e
+      go true false false e = refl
+      go false u v e = refl
+
+  -- a held frame is the board's own: a fetch never answers 2
+  own : (room : ℕ) → fetchNumber (boardAt cells perKm h) room ≡ 2 → ⊥
+  unfolding step numberAt rows first
+  own room e = go (usableCount cells) (ltb room 259) (complete (heldAt h)) refl (sym (tabled (fetch room)) ∙ e)
+    where
+      s : List ℕ
+      s = heldAt h
+
+      not-2 : (a b c : Bool) → _≡_ {A = ℕ} (cond a 3 (cond b 4 (cond c 5 0))) 2 → ⊥
+      not-2 true b c e = let z : _≡_ {A = ℕ} 3 2 = e in omega arith
+      not-2 false true c e = let z : _≡_ {A = ℕ} 4 2 = e in omega arith
+      not-2 false false true e = let z : _≡_ {A = ℕ} 5 2 = e in omega arith
+      not-2 false false false e = let z : _≡_ {A = ℕ} 0 2 = e in omega arith
+
+      go : (t u v : Bool) → complete s ≡ v → cond (not t) 21 (cond u 1 (cond (not v) 7 (first (requestRows cells perKm h s)))) ≡ 2 → ⊥
+      go true true v c e = let z : _≡_ {A = ℕ} 1 2 = e in omega arith
+      go true false true c e =
+          let (long-enough, begins) = ours (heardAt h) c in
+          not-2 (damaged s) (against (settingsAt h) s (asked s)) (long (boardAt cells perKm h) (asked s)) (rw (long-enough, begins) at e)
+      go true false false c e = let z : _≡_ {A = ℕ} 7 2 = e in omega arith
+      go false u v c e = let z : _≡_ {A = ℕ} 21 2 = e in omega arith
 
 -- ---- after a reply there are zeros
 
@@ -172,17 +275,18 @@ zeros-after room n xs e = rw (← e) (drop-append-seam xs (replicate (room - len
 
 -- ---- the demand, of any board
 
-pub leaves : (b : Board) (c : Call) → Leaves b (step b c .1) c
-unfolding step frameNumber frameReply
-leaves b (tick cells r) = refl
-leaves b (frame s room) = go (usable b) (ltb room 259) refl
+-- what is left of a reply buffer, by the number and the bytes
+abbrev Left : Board → List ℕ → ℕ → ℕ → List ℕ → Type 0
+Left b s room number buffer =
+    (length buffer ≡ room)
+    × ((number ≡ 0 → ⊥) → buffer ≡ refusedBuffer number s room)
+    × (number ≡ 0 → drop (replyBytes b (asked s)) buffer ≡ replicate (room - replyBytes b (asked s)) 0)
+
+frame-leaves : (b : Board) (s : List ℕ) (room : ℕ) → Left b s room (frameNumber b s room) (frameReply b s room)
+unfolding frameNumber frameReply
+frame-leaves b s room = go (usable b) (ltb room 259) refl
   where
-    go : (u t : Bool) → ltb room 259 ≡ t
-        → (length (padded room (cond u (cond t [] (requestReply b s (requestOf s))) [])) ≡ room)
-        × ((cond u (cond t 1 (requestNumber b s (requestOf s))) 21 ≡ 0 → ⊥)
-        → padded room (cond u (cond t [] (requestReply b s (requestOf s))) []) ≡ refusedBuffer (cond u (cond t 1 (requestNumber b s (requestOf s))) 21) s room)
-        × (cond u (cond t 1 (requestNumber b s (requestOf s))) 21 ≡ 0
-        → drop (replyBytes b (asked s)) (padded room (cond u (cond t [] (requestReply b s (requestOf s))) [])) ≡ replicate (room - replyBytes b (asked s)) 0)
+    go : (u t : Bool) → ltb room 259 ≡ t → Left b s room (cond u (cond t 1 (requestNumber b s (requestOf s))) 21) (padded room (cond u (cond t [] (requestReply b s (requestOf s))) []))
     go true true e = (padded-length room [] (omega arith), λ h. no-bytes room, λ z. let y : _≡_ {A = ℕ} 1 0 = z in absurd (omega arith))
     go true false e = (
       padded-length room _ (let h = ltb-false room 259 e in omega (arith, reply-length b s (requestOf s))),
@@ -191,15 +295,76 @@ leaves b (frame s room) = go (usable b) (ltb room 259) refl
           (zeros-after room (replyBytes b (requestOf s)) (requestReply b s (requestOf s)) (reply-bytes b s (requestOf s) z)),
     )
     go false t e = (padded-length room [] (omega arith), λ h. no-bytes room, λ z. let y : _≡_ {A = ℕ} 21 0 = z in absurd (omega arith))
+
+pub leaves : (b : Board) (c : Call) → Leaves b (step b c .1) c
+unfolding step offerOf offeredOf fetchNumber fetchReply
+leaves b (tick cells r) = refl
+leaves b (frame s room) = frame-leaves b s room
 leaves b handover = refl
+leaves b (offer bytes) = (refl, go (usable b) (holds b) refl)
+  where
+    r : Receiver
+    r = b .hire .receiver
+
+    go : (u t : Bool) → isHeld r ≡ t → (cond u (offeredOf r bytes .number) 21 ≡ 0 → ⊥) → cond u (offeredOf r bytes .taken) 0 ≡ 0
+    go true true e h = rw e refl
+    go true false e h = absurd (h (rw e refl))
+    go false t e h = refl
+leaves b (fetch room) = go (usable b) (ltb room 259) (holds b)
+  where
+    s : List ℕ
+    s = heldIn b
+
+    go : (u t v : Bool)
+        → Left b s room (cond u (cond t 1 (cond v (frameNumber b s room) 7)) 21) (cond u (cond t (padded room []) (cond v (frameReply b s room) (padded room []))) (padded room []))
+    go true true v = (padded-length room [] (omega arith), λ h. no-bytes room, λ z. let y : _≡_ {A = ℕ} 1 0 = z in absurd (omega arith))
+    go true false true = frame-leaves b s room
+    go true false false = (padded-length room [] (omega arith), λ h. no-bytes room, λ z. let y : _≡_ {A = ℕ} 7 0 = z in absurd (omega arith))
+    go false t v = (padded-length room [] (omega arith), λ h. no-bytes room, λ z. let y : _≡_ {A = ℕ} 21 0 = z in absurd (omega arith))
+
+-- ---- a fetch that answers with a NACK
+
+module _ (b : Board) (room : ℕ) (nack : nacks (fetch room) (fetchNumber b room) ≡ true) where
+  nacked-fetch : (usable b ≡ true) × (ltb room 259 ≡ false) × (fetchBoard b room ≡ letGo b)
+  unfolding fetchNumber fetchBoard frameNumber frameBoard
+  nacked-fetch = go (usable b) refl (ltb room 259) refl (holds b) nack
+    where
+      s : List ℕ
+      s = heldIn b
+
+      number : Bool → Bool → Bool → ℕ
+      number u t v = cond u (cond t 1 (cond v (cond u (cond t 1 (requestNumber b s (requestOf s))) 21) 7)) 21
+
+      go : (u : Bool) → usable b ≡ u → (t : Bool) → ltb room 259 ≡ t → (v : Bool) → (eqb (number u t v) 3 || eqb (number u t v) 4 || eqb (number u t v) 5) ≡ true
+          → (u ≡ true) × (t ≡ false) × (cond u (cond t b (cond v (letGo (cond u (cond t b (requestBoard b s (requestOf s))) b)) b)) b ≡ letGo b)
+      go true e true f v k = absurd (false≢true k)
+      go true e false f true k =
+          (refl, refl, ap letGo (request-refused b s (λ z. false≢true (ap (λ (n : ℕ). eqb n 3 || eqb n 4 || eqb n 5) (sym z) ∙ k))))
+      go true e false f false k = absurd (false≢true k)
+      go false e t f v k = absurd (false≢true k)
+
+  only-lets-go : fetchBoard b room ≡ letGo b
+  only-lets-go = nacked-fetch .2
+
+  none-after : fetchNumber (letGo b) room ≡ 7
+  unfolding fetchNumber
+  none-after = rw (nacked-fetch .0, nacked-fetch .1, none-held) refl
+
+  then-none : fetchNumber (fetchBoard b room) room ≡ 7
+  then-none = ap (λ (x : Board). fetchNumber x room) only-lets-go ∙ none-after
 
 pub demand1 : Demand1 board
-unfolding startBoard newPack
+unfolding startBoard newPack step
 demand1 =
     record {
       starts = λ cells perKm. refl;
       numbers = λ cells perKm cs c. ap (λ (b : Board). step b c .1 .number) (account cells perKm cs) ∙ tabled cells perKm (deeds cells perKm cs) c;
-      unchanged = λ cells perKm cs c. refused (afterIn board (board .start cells perKm) cs) c;
+      unchanged = λ cells perKm cs c.
+          subst⁻¹ (λ (b : Board). (step b c .1 .number ≡ 0 → ⊥) → nacks c (step b c .1 .number) ≡ false → step b c .0 ≡ b) (account cells perKm cs)
+          (refused (boardAt cells perKm (deeds cells perKm cs)) c (own cells perKm (deeds cells perKm cs)));
+      lets-go = λ cells perKm cs room n.
+          let b = afterIn board (board .start cells perKm) cs in
+          (then-none b room n, λ zs off. ap (λ (x : Board). answersIn board x zs) (only-lets-go b room n) ∙ alike b noBytes zs off);
       leaves = λ cells perKm cs c.
           subst⁻¹ (λ (b : Board). Leaves (boardAt cells perKm (deeds cells perKm cs)) (step b c .1) c) (account cells perKm cs) (leaves (boardAt cells perKm (deeds cells perKm cs)) c);
     }
@@ -212,6 +377,8 @@ abbrev pub Zeroed : Seen → Call → Type 0
 Zeroed a (tick cells r) = a .buffer ≡ []
 Zeroed a (frame s room) = a .buffer ≡ replicate room 0
 Zeroed a handover = a .buffer ≡ []
+Zeroed a (offer bytes) = (a .buffer ≡ []) × (a .taken ≡ 0)
+Zeroed a (fetch room) = a .buffer ≡ replicate room 0
 
 module _ (B : Behaviour) (meets : Demand1 B) (cells perKm : ℕ) (none : B .started cells perKm ≡ 21) where
   no-board : usableCount cells ≡ false
@@ -226,6 +393,8 @@ module _ (B : Behaviour) (meets : Demand1 B) (cells perKm : ℕ) (none : B .star
   always-21 h (tick given r) = rw no-board refl
   always-21 h (frame s room) = rw no-board refl
   always-21 h handover = rw no-board refl
+  always-21 h (offer bytes) = rw no-board refl
+  always-21 h (fetch room) = rw no-board refl
 
   module _ (cs : List Call) (c : Call) where
     pub answers-21 : B .step (afterIn B (B .start cells perKm) cs) c .1 .number ≡ 21
@@ -235,7 +404,14 @@ module _ (B : Behaviour) (meets : Demand1 B) (cells perKm : ℕ) (none : B .star
     not-done z = let y : _≡_ {A = ℕ} 21 0 = sym answers-21 ∙ z in omega arith
 
     pub changes-nothing : B .step (afterIn B (B .start cells perKm) cs) c .0 ≡ afterIn B (B .start cells perKm) cs
-    changes-nothing = meets .unchanged cells perKm cs c not-done
+    changes-nothing = meets .unchanged cells perKm cs c not-done (ap (nacks c) answers-21 ∙ no-nack c)
+      where
+        no-nack : (c : Call) → nacks c 21 ≡ false
+        no-nack (tick given r) = refl
+        no-nack (frame s room) = refl
+        no-nack handover = refl
+        no-nack (offer bytes) = refl
+        no-nack (fetch room) = refl
 
     pub zeroes : Zeroed (B .step (afterIn B (B .start cells perKm) cs) c .1) c
     zeroes = go c (meets .leaves cells perKm cs c) answers-21 not-done
@@ -247,3 +423,5 @@ module _ (B : Behaviour) (meets : Demand1 B) (cells perKm : ℕ) (none : B .star
         go (tick given r) l e n = l
         go (frame s room) l e n = l .1 n ∙ ap (λ k. refusedBuffer k s room) e
         go handover l e n = l
+        go (offer bytes) l e n = (l .0, l .1 n)
+        go (fetch room) l e n = l .1 n ∙ ap (λ k. refusedBuffer k (heldIn (boardAt cells perKm (deeds cells perKm cs))) room) e

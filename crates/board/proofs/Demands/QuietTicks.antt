@@ -1,7 +1,7 @@
 -- After 300 quiet ticks in a row nothing is latched (30 s is the longest wait); this is to be shown. No wait is left either, and no
 -- sensor remembered: so crate `guard` has it where each wait is at most 300 ticks, and by the settings' ranges each is.
 -- Assumes nothing.
-use mathlib.Core.Path.{_≡_, refl, sym, ap, _∙_}
+use mathlib.Core.Path.{_≡_, refl, sym, ap, _∙_, subst⁻¹}
 use mathlib.Core.Bool.{Bool, true, false, and-eq-true-iff, and-false}
 use mathlib.Core.List.{List, [], _∷_, _++_, map}
 use Prim.Native.Nat.{ℕ, zero, suc, _*_, _≤_}
@@ -12,16 +12,16 @@ use lib.IntN.{pos}
 use lib.ListN.{take, replicate}
 use Rattle.cells.specs.Cells.{extremesOf}
 use Rattle.guard.specs.Guard.{noGuard}
-use Rattle.guard.specs.Account.{Moment}
 use Rattle.guard.specs.Quiet.{quiet, allQuiet}
 use Rattle.guard.proofs.QuietTicks as guard
 use Rattle.guard.proofs.QuietTicks.{Bounded}
 use Rattle.readings.specs.declared.Readings.{Readings}
 use Rattle.settings.specs.declared.Settings.{Settings}
 use Rattle.settings.specs.Settings.{factory, inRange, noneBelow}
-use Rattle.board.specs.Calls.{Call, tick}
-use Rattle.board.specs.Account.{Deed, row, momentOf, momentsAt, countAt, settingsAt, latchedAt, waitsAt, rememberedAt, deedOf, deedsOf}
+use Rattle.board.specs.Calls.{Call, tick, frame, handover, offer, fetch}
+use Rattle.board.specs.Account.{Deed, row, momentOf, momentsAt, countAt, settingsAt, latchedAt, waitsAt, rememberedAt, deedsOf}
 use Rattle.board.specs.Demands.{Quieted, deeds}
+use Rattle.board.proofs.Account.Deeds.{AfterOne, called-so}
 use Rattle.board.proofs.Account.Settings.{ranges}
 use Rattle.board.proofs.Account.Tick.{guardAt}
 use Rattle.board.proofs.Opened.{accounted}
@@ -36,17 +36,24 @@ longest-wait s h = let e = at-most (leb (s .r332) 30) refl in omega (arith, leb-
     at-most true e = refl
     at-most false e = let none : inRange s ≡ false = simp (e, and-false) in sym none ∙ h
 
-joined : (s : Settings) (ts : List (List ℕ × Readings)) (ms : List Moment) → 10 * s .r332 ≤ 300 → Bounded ms → Bounded (map (momentOf s) ts ++ ms)
-unfolding Bounded
-joined s [] ms h b = b
-joined s (t ∷ ts) ms h b = (h, joined s ts ms h b)
+module _ (cells perKm : ℕ) where
+  still-bounded : (d : Deed) (k : List Deed) → row d .ticks ≡ [] → row d .writes ≡ [] → Bounded (momentsAt k) → Bounded (momentsAt (d ∷ k))
+  still-bounded d k e f b = subst⁻¹ (λ (ts : List (List ℕ × Readings)). Bounded (map (momentOf (settingsAt k)) ts ++ momentsAt k)) e b
 
-bounded : (cells perKm : ℕ) (cs : List Call) → Bounded (momentsAt (deedsOf cells perKm cs))
-unfolding deedsOf Bounded
-bounded cells perKm [] = tt
-bounded cells perKm (c ∷ cs) =
-    joined (settingsAt (deedsOf cells perKm cs)) (row (deedOf cells perKm (deedsOf cells perKm cs) c) .ticks) (momentsAt (deedsOf cells perKm cs))
-    (longest-wait _ (ranges cells perKm cs .0)) (bounded cells perKm cs)
+  bounded : (cs : List Call) → Bounded (momentsAt (deedsOf cells perKm cs))
+  unfolding deedsOf Bounded
+  bounded [] = tt
+  bounded (c ∷ cs) = called-so cells perKm (λ k. Bounded (momentsAt k)) still-bounded h (bounded cs) c (go (bounded cs) c)
+    where
+      h : List Deed
+      h = deedsOf cells perKm cs
+
+      go : Bounded (momentsAt h) → (c : Call) → AfterOne cells perKm (λ k. Bounded (momentsAt k)) still-bounded h c
+      go b (tick given r) = λ e f. (longest-wait _ (ranges cells perKm cs .0), b)
+      go b (frame s room) = λ from n e. b
+      go b handover = tt
+      go b (offer bytes) = tt
+      go b (fetch room) = λ from n e. b
 
 pub stilled : (cells perKm : ℕ) (cs : List Call) → Quieted 300 (deeds cells perKm cs) → guardAt (deeds cells perKm cs) ≡ noGuard
 unfolding latchedAt waitsAt rememberedAt

@@ -11,9 +11,6 @@ expect-requires c κs = search needs
 expect-requires-2 : tie.Need-expect-requires-2
 expect-requires-2 c κs = search needs
 
-mul-expect : tie.Need-mul-expect
-mul-expect c = search needs
-
 add-expect : tie.Need-add-expect
 add-expect c = search needs
 
@@ -158,7 +155,6 @@ expected-of-spec =
     (tie.spec
     expect-requires
     expect-requires-2
-    mul-expect
     add-expect
     expect-requires-3
     expect-requires-4

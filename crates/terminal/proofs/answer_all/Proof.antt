@@ -7,13 +7,16 @@ use Rattle.terminal.proofs.answer_all.Statement.{statement}
 use Rattle.terminal.proofs.answer_all.Tie as tie
 
 abbrev Inv-loop : tie.InvT-loop
-Inv-loop prompts block₀ line₀ request₀ voltages₀ reply₀ out₀ answer₀ held₀ turns₀ count₀ block line request voltages reply out answer held turns count = (length block ≡ length block₀) × (length line ≡ length line₀) × (length request ≡ length request₀) × (length voltages ≡ length voltages₀) × (length reply ≡ length reply₀) × (length out ≡ length out₀)
+Inv-loop prompts block₀ line₀ request₀ voltages₀ reply₀ out₀ answer₀ held₀ turns₀ count₀ t13 block line request voltages reply out answer held turns count = (length block ≡ length block₀) × (length line ≡ length line₀) × (length request ≡ length request₀) × (length voltages ≡ length voltages₀) × (length reply ≡ length reply₀) × (length out ≡ length out₀)
 
 abbrev μ-loop : tie.MeasureT-loop
-μ-loop prompts block₀ line₀ request₀ voltages₀ reply₀ out₀ answer₀ held₀ turns₀ count₀ block line request voltages reply out answer held turns count = turns
+μ-loop prompts block₀ line₀ request₀ voltages₀ reply₀ out₀ answer₀ held₀ turns₀ count₀ t13 block line request voltages reply out answer held turns count = turns
 
 start-requires : tie.Need-start-requires Inv-loop μ-loop
 start-requires c κs = tt
+
+told-requires : tie.Need-told-requires Inv-loop μ-loop
+told-requires c κs = tt
 
 block-read-requires : tie.Need-block-read-requires Inv-loop μ-loop
 block-read-requires c κs = tt
@@ -63,8 +66,11 @@ loop-again c =
     let done = c .before .before .before .before .before .before .before .before .before .before in
     (omega (arith, inv), omega (arith, inv, done), omega (arith, inv, done), omega (arith, inv, done), omega (arith, inv, done), omega (arith, inv, done))
 
-last-answered-requires : tie.Need-last-answered-requires Inv-loop μ-loop
-last-answered-requires c κs = tt
+slice-aggregate-block-answered : tie.Need-slice-aggregate-block-answered Inv-loop μ-loop
+slice-aggregate-block-answered c = search needs
+
+block-answered-requires-2 : tie.Need-block-answered-requires-2 Inv-loop μ-loop
+block-answered-requires-2 c κs = tt
 
 same-length : tie.Need-same-length Inv-loop μ-loop
 same-length c = search needs
@@ -94,6 +100,7 @@ answer-all-spec =
     Inv-loop
     μ-loop
     start-requires
+    told-requires
     block-read-requires
     loop-holds
     least-requires
@@ -109,7 +116,8 @@ answer-all-spec =
     sub-turns
     loop-less
     loop-again
-    last-answered-requires
+    slice-aggregate-block-answered
+    block-answered-requires-2
     same-length
     same-length-2
     same-length-3

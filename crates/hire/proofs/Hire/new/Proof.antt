@@ -13,9 +13,12 @@ none-requires-2 c κs = search needs
 cleared-at-requires : tie.Need-cleared-at-requires
 cleared-at-requires c κs = search needs
 
+none-requires-3 : tie.Need-none-requires-3
+none-requires-3 c κs = search needs
+
 returns : tie.Need-returns
 unfolding newHire
 returns c = cc
 
 pub new-spec : {M : Type 1} → statement M
-new-spec = tie.close (tie.spec none-requires none-requires-2 cleared-at-requires returns)
+new-spec = tie.close (tie.spec none-requires none-requires-2 cleared-at-requires none-requires-3 returns)

@@ -1,0 +1,60 @@
+-- W-201, computed: the longest frame byte by byte and the frame after it; noise, a frame with a bad CRC, and what a handover drops.
+-- Assumes nothing.
+use mathlib.Core.Path.{_≡_, refl}
+use mathlib.Core.List.{List, [], _∷_, _++_, map}
+use Prim.Native.Nat.{ℕ}
+use lib.ListN.{length, take, drop, replicate}
+use Rattle.wire.specs.Wire.{sealed}
+use Rattle.board.specs.Start.{startBoard}
+use Rattle.board.specs.Calls.{Call, Seen, offer, fetch, handover}
+use Rattle.board.specs.Behaviour.{board, answersIn}
+use Rattle.board.proofs.Opened.{opened}
+
+-- what calls are answered on a new board of 4 cells; of each the number and the bytes taken
+abbrev answers : List Call → List Seen
+answers cs = answersIn board (startBoard 4 2000) cs
+
+abbrev told : List Call → List (ℕ × ℕ)
+told cs = map (λ a. (a .number, a .taken)) (answers cs)
+
+abbrev idle : List ℕ
+idle = 0xAA ∷ 0x18 ∷ 0x7F ∷ 0x1A ∷ []
+
+-- ---- the longest frame
+
+-- 0x10 with a PL of 255 and a right CRC: 264 bytes, and against the rule that PL = 2·RL
+longest : List ℕ
+longest = sealed (0xAA ∷ 0x10 ∷ 0x01 ∷ 0x2C ∷ 0x00 ∷ 0x7F ∷ 0xFF ∷ replicate 255 0)
+
+-- offered byte by byte and fetched; then the idle frame
+bytewise : List Call
+bytewise = map (λ b. offer (b ∷ [])) longest ++ (fetch 259 ∷ offer idle ∷ fetch 259 ∷ [])
+
+the-longest :
+    (length longest ≡ 264)
+    × (told bytewise ≡ replicate 264 (0, 1) ++ ((4, 0) ∷ (0, 4) ∷ (0, 0) ∷ []))
+    × (map (λ a. take 6 (a .buffer)) (drop 264 (answers bytewise))
+    ≡ (0xAA ∷ 0x00 ∷ 0x10 ∷ 0x00 ∷ 0x2C ∷ 0x3C ∷ []) ∷ [] ∷ (0xAA ∷ 0x18 ∷ 0x97 ∷ 0x00 ∷ 0xCF ∷ 0xCB ∷ []) ∷ [])
+unfolding opened longest bytewise
+the-longest = (refl, refl, refl)
+
+-- ---- numbers, and what is taken
+
+-- noise is skipped and counted; bytes after the frame are not taken; 6 while it is held, 1 with too little room, 7 when it is gone
+pub held-until-fetched :
+    told (offer (0x00 ∷ 0x18 ∷ [] ++ idle ++ idle) ∷ offer [] ∷ fetch 258 ∷ fetch 259 ∷ fetch 259 ∷ fetch 258 ∷ [])
+    ≡ (0, 6) ∷ (6, 0) ∷ (1, 0) ∷ (0, 0) ∷ (7, 0) ∷ (1, 0) ∷ []
+unfolding opened
+held-until-fetched = refl
+
+-- a frame with a bad CRC is answered and all its bytes are used up
+pub used-up : told (offer (0xAA ∷ 0x18 ∷ 0x7F ∷ 0x1B ∷ idle) ∷ fetch 259 ∷ offer idle ∷ fetch 259 ∷ []) ≡ (0, 4) ∷ (3, 0) ∷ (0, 4) ∷ (0, 0) ∷ []
+unfolding opened
+used-up = refl
+
+-- a handover drops an unfinished and a held frame
+pub dropped :
+    told (offer (0xAA ∷ 0x18 ∷ []) ∷ handover ∷ offer (0x7F ∷ 0x1A ∷ []) ∷ fetch 259 ∷ offer idle ∷ handover ∷ fetch 259 ∷ [])
+    ≡ (0, 2) ∷ (0, 0) ∷ (0, 2) ∷ (7, 0) ∷ (0, 4) ∷ (0, 0) ∷ (7, 0) ∷ []
+unfolding opened
+dropped = refl

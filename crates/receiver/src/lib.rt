@@ -1,0 +1,100 @@
+// A receiver for the raw line: it takes bytes up to the end of the first complete frame and holds that frame.
+// Every value is safe: a count past 264 means 264.
+ghost use mathlib.Core.Bool.{false};
+ghost use mathlib.Core.Path.{_≡_};
+ghost use Prim.Native.Nat.{_≤_, _<_};
+ghost use lib.ListN.{length};
+ghost use Rattle.receiver.specs.Receiver.{heldOf, isHeld, withByte, noBytes, offeredOf};
+
+// The longest frame: 9 bytes and a PL of 255.
+pub const ROOM: usize = 264;
+
+// The first `count` bytes have come of a frame: none, an unfinished one, or a complete one, which is held.
+pub struct Receiver {
+    pub bytes: [u8; ROOM],
+    pub count: u16,
+}
+
+// What an offer gives back: its number, how many bytes it took, and the receiver after it.
+pub struct Offered {
+    pub number: u8,
+    pub taken: usize,
+    pub receiver: Receiver,
+}
+
+impl Receiver {
+    // As at the start, after a fetch and after a handover.
+    pub fn none() -> Receiver
+        ensures { λ r. ⌜ r ≡ noBytes ⌝ }
+    {
+        Receiver {
+            bytes: [0; ROOM],
+            count: 0,
+        }
+    }
+
+    // Takes bytes up to the end of the first complete frame; 6, and none taken, while a frame is held.
+    pub fn offer(self, bytes: &[u8]) -> Offered
+        ensures { λ r. ⌜ r ≡ offeredOf self (now (bytes .entry)) ⌝ }
+    {
+        if self.is_held() {
+            return Offered {
+                number: 6,
+                taken: 0,
+                receiver: self,
+            };
+        }
+        let mut receiver = self;
+        let mut taken = 0;
+        while taken < bytes.len() {
+            if receiver.is_held() {
+                return Offered {
+                    number: 0,
+                    taken,
+                    receiver,
+                };
+            }
+            receiver = receiver.with_byte(bytes[taken]);
+            taken += 1;
+        }
+        Offered {
+            number: 0,
+            taken,
+            receiver,
+        }
+    }
+
+    // A frame is complete. Only then can the array be full.
+    pub fn is_held(self) -> bool
+        ensures { λ r. ⌜ (r ≡ isHeld self) × (r ≡ false → length (heldOf self) < 264) ⌝ }
+    {
+        let bytes = self.bytes;
+        let count = self.length();
+        requests::length_of(&bytes[..count]) <= count
+    }
+
+    // How many bytes have come of a frame.
+    pub fn length(self) -> usize
+        ensures { λ r. ⌜ (r ≡ length (heldOf self)) × (r ≤ 264) × (length (self .bytes) ≡ 264) ⌝ }
+    {
+        let count = self.count as usize;
+        if count < ROOM { count } else { ROOM }
+    }
+
+    // One byte more; it is skipped where none has come and it begins no frame.
+    fn with_byte(self, byte: u8) -> Receiver
+        requires { ⌜ length (heldOf self) < 264 ⌝ }
+        ensures { λ r. ⌜ r ≡ withByte self byte ⌝ }
+    {
+        let count = self.length();
+        if (count == 0) & (byte != 0xAA) {
+            return self;
+        }
+        let mut bytes = self.bytes;
+        bytes[count] = byte;
+        Receiver {
+            bytes,
+            count: (count + 1) as u16,
+        }
+    }
+}
