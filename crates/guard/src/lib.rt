@@ -215,7 +215,7 @@ fn wait_left(settings: Settings, holds: bool, left: u32) -> u32
 }
 
 // The column 'Holds'.
-fn holding(settings: Settings, readings: Readings, extremes: Extremes) -> Conditions
+pub fn holding(settings: Settings, readings: Readings, extremes: Extremes) -> Conditions
     ensures { λ r. ⌜ r ≡ holdsOf settings readings extremes ⌝ }
 {
     let ot = is_sensor_hot(settings, readings);
@@ -234,7 +234,7 @@ fn holding(settings: Settings, readings: Readings, extremes: Extremes) -> Condit
 }
 
 // The column 'Recovers'; a wait is over when nothing is left of it.
-fn recovering(
+pub fn recovering(
     settings: Settings,
     readings: Readings,
     extremes: Extremes,

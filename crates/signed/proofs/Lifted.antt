@@ -66,3 +66,11 @@ degrees-of-lifted (negsuc n) h = omega arith
 pub minus-one-less : (n : ℕ) → negsuc 0 -ℤ pos n ≡ negsuc n
 minus-one-less zero = refl
 minus-one-less (suc n) = ap (λ (k : ℕ). negsuc (suc k)) (zero-add n)
+
+-- the upper half of the bits of a width stands for the numbers below zero: the last for -1
+module _ (w : Width) (n : ℕ) (f : n < 2 ^ hbits w) where
+  pub below-zero-fits : SFits w (negsuc 0 -ℤ toZ w n)
+  below-zero-fits = rw (toZ-pos w {n = n} f, minus-one-less) (record { sfits = f })
+
+  pub below-zero : (b : ℕ) → ofZ w (negsuc n) ≡ b → toZ w (ofZ w (negsuc 0 -ℤ toZ w n)) ≡ toZ w b
+  below-zero b e = rw (toZ-pos w {n = n} f, minus-one-less) (ap (toZ w) e)

@@ -1,10 +1,10 @@
--- Signed numbers at the edge of the board: what they are as sixteen bits, their two sides of zero, and whole degrees.
+-- Signed numbers at the edge of the board: what they are as bits, their two sides of zero, and whole degrees.
 -- Assumes nothing.
 use Prim.Native.Nat.{ℕ, suc, _+_, _-_, _/_, min}
 use mathlib.Core.Bool.{cond}
 use lib.IntN.{ℤ, pos, negsuc}
 use lib.Signed.{leZ}
-use mir.Syntax.{w8, w16}
+use mir.Syntax.{w8, w16, w32}
 use mir.Val.{toZ, ofZ}
 
 -- z + h, of a z that is at least -h: compares as z does
@@ -18,6 +18,10 @@ bitsOf z = ofZ w16 z
 
 unfoldable pub fromBits : ℕ → ℤ
 fromBits b = toZ w16 b
+
+-- the signed number that 32 bits are
+unfoldable pub fromBits32 : ℕ → ℤ
+fromBits32 b = toZ w32 b
 
 -- a positive number as it is, 0 for any other
 abbrev pub above : ℤ → ℕ

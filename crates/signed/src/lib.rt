@@ -1,7 +1,7 @@
 // Signed numbers at the edge of the board: currents and temperatures come signed, and leave as bits or unsigned numbers.
 ghost use mathlib.Core.Path.{_≡_};
 ghost use Prim.Native.Nat.{_+_, _-_, _/_, _%_, min, max};
-ghost use Rattle.signed.specs.Signed.{lift, bitsOf, fromBits, above, below, lowerOf, higherOf, degreesOf};
+ghost use Rattle.signed.specs.Signed.{lift, bitsOf, fromBits, fromBits32, above, below, lowerOf, higherOf, degreesOf};
 
 // A temperature in the width of a product with ten.
 pub fn wide(tenths: i16) -> i32
@@ -53,6 +53,17 @@ pub fn from_bits(bits: u16) -> i16
         bits as i16
     } else {
         -1 - ((65535 - bits) as i16)
+    }
+}
+
+// The signed number that 32 bits are.
+pub fn from_bits_32(bits: u32) -> i32
+    ensures { λ r. ⌜ r ≡ fromBits32 bits ⌝ }
+{
+    if bits < 2147483648 {
+        bits as i32
+    } else {
+        -1 - ((4294967295 - bits) as i32)
     }
 }
 
