@@ -45,10 +45,20 @@ impl Hire {
         hire
     }
 
+    // The number of the charger's event where it is present now, or not; 0 for none.
+    pub fn charger_event(self, present: bool) -> u8
+        ensures { λ r. ⌜ r ≡ chargerEvent (self .charger) present ⌝ }
+    {
+        if self.charger == present {
+            return 0;
+        }
+        if present { 0x64 } else { 0x65 }
+    }
+
     pub fn see_charger(self, seconds: u32, present: bool) -> Hire
         ensures { λ r. ⌜ r ≡ chargerOf self seconds present ⌝ }
     {
-        let event = charger_event(self.charger, present);
+        let event = self.charger_event(present);
         let events = recorded(self.events, seconds, event);
         let mut hire = self;
         hire.events = events;
@@ -115,15 +125,6 @@ impl Hire {
         hire.discharge = discharge;
         hire
     }
-}
-
-fn charger_event(before: bool, now: bool) -> u8
-    ensures { λ r. ⌜ r ≡ chargerEvent before now ⌝ }
-{
-    if before == now {
-        return 0;
-    }
-    if now { 0x64 } else { 0x65 }
 }
 
 // The latches before and after the tick; in the table's order.

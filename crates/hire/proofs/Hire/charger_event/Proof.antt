@@ -1,6 +1,6 @@
 -- The tests of the code are those of the definition. Assumes nothing.
-use Rattle.hire.proofs.tick.charger_event.Statement.{statement}
-use Rattle.hire.proofs.tick.charger_event.Tie as tie
+use Rattle.hire.proofs.Hire.charger_event.Statement.{statement}
+use Rattle.hire.proofs.Hire.charger_event.Tie as tie
 
 returns : tie.Need-returns
 returns c = rw (c .if1 .taken)
