@@ -6,8 +6,9 @@
 #include <stddef.h>
 #include <stdint.h>
 
-/* "Numbers the caller gets", and 6 and 7 of W-201. Number 5 (a reply payload above 254 bytes) has no place here: a
-   register block lies in one range, so a payload is 200 bytes at most (100 registers), and 48 events make 196. */
+/* "Numbers the caller gets", 6 and 7 of W-201, 61 and 62 of W-211. Number 5 (a reply payload above 254 bytes) has no
+   place here: a register block lies in one range, so a payload is 200 bytes at most (100 registers), and 48 events
+   make 196. */
 enum number {
     DONE = 0,
     ROOM_TOO_SMALL = 1,
@@ -20,7 +21,9 @@ enum number {
     WRONG_CURRENT = 12,
     NO_INTERNAL_TEMPERATURE = 13,
     WRONG_PULSES = 14,
-    NO_BOARD = 21
+    NO_BOARD = 21,
+    BAD_RECORD = 61,
+    CUT_RECORD = 62
 };
 
 enum {

@@ -4,8 +4,13 @@
    second --script SEED CALLS K    prints a script of one kind, K ticks or frames
    second --limits NAME            prints a script that drives a count to its end; limits.c has the names
    second --compare NAME SCRIPT    holds the board's answers, on standard input, to its own answers to the file SCRIPT
+   second --replay                 plays a recording from standard input, and prints its events
+   second --engine                 holds the board to the plain engine, on a recording of up to 600 ticks
+   second --record SEED TICKS      writes a recording to standard output
+   second --record SEED TICKS D    the same with one damage; record.c has the names
    Built with: cc -std=c11 -O3 -Wall -Wextra -Wpedantic -o second *.c */
 #include "console.h"
+#include "replay.h"
 
 #include <errno.h>
 #include <inttypes.h>
@@ -187,9 +192,23 @@ static int print_script_of(int words, char **word)
     return ALL_WELL;
 }
 
+static int write_recording_of(int words, char **word)
+{
+    const char *damage = words == 5 ? word[4] : NULL;
+    const uint64_t seed = number_of("SEED", word[2], 0, UINT64_MAX);
+    const uint64_t ticks = number_of("TICKS", word[3], damage != NULL, UINT64_MAX);
+    return write_recording(seed, ticks, damage) ? ALL_WELL : WRONG_WORDS;
+}
+
 static int obey_words(int words, char **word)
 {
     const char *order = words > 1 ? word[1] : "";
+    if (words == 2 && strcmp(order, "--replay") == 0)
+        return replay_recording() ? ALL_WELL : FAILED;
+    if (words == 2 && strcmp(order, "--engine") == 0)
+        return engine_agrees() ? ALL_WELL : FAILED;
+    if ((words == 4 || words == 5) && strcmp(order, "--record") == 0)
+        return write_recording_of(words, word);
     if (words >= 4 && strcmp(order, "--script") == 0)
         return print_script_of(words, word);
     if (words == 3 && strcmp(order, "--limits") == 0)
@@ -209,6 +228,8 @@ int main(int words, char **word)
     const int status = obey_words(words, word);
     if (status == WRONG_WORDS)
         fputs("usage: second | second --fault 1..6 | second --script SEED CALLS [ticks|frames]\n"
-              "       second --limits latchings|currents|distance|event-time | second --compare NAME SCRIPT\n", stderr);
+              "       second --limits latchings|currents|distance|event-time | second --compare NAME SCRIPT\n"
+              "       second --replay | second --engine | second --record SEED TICKS [DAMAGE], DAMAGE one of\n"
+              "       cell flag padding current internal pulses cut opening-cut opening-padding opening-count\n", stderr);
     return status == ALL_WELL && (fflush(stdout) != 0 || ferror(stdout)) ? FAILED : status;
 }

@@ -1,13 +1,11 @@
 /* Scripts of calls that press the limits of documents 01 and 02. The script's own board runs beside it, so that the
    values lie at, one below and one above the limits of the settings then in force. */
+#include "chance.h"
 #include "console.h"
 
 #include <stdarg.h>
 #include <stdio.h>
 #include <string.h>
-
-#define COUNT_OF(list) (sizeof(list) / sizeof(list)[0])
-#define PICK(script, list) (list)[between(script, 0, (int)COUNT_OF(list) - 1)]
 
 /* What a sensor is for some ticks of a run around OT. */
 enum heat { COOL, WARM, HOT, UNPLUGGED };
@@ -31,37 +29,6 @@ struct request {
     uint8_t bytes[MOST_BYTES + 4];
     size_t length;
 };
-
-/* ---- Chance: splitmix64 ---- */
-
-static uint64_t draw(struct script *script)
-{
-    uint64_t mixed = script->chance += 0x9E3779B97F4A7C15u;
-    mixed = (mixed ^ mixed >> 30) * 0xBF58476D1CE4E5B9u;
-    mixed = (mixed ^ mixed >> 27) * 0x94D049BB133111EBu;
-    return mixed ^ mixed >> 31;
-}
-
-static int between(struct script *script, int least, int greatest)
-{
-    return least + (int)(draw(script) % (uint64_t)(greatest - least + 1));
-}
-
-static bool one_in(struct script *script, int times)
-{
-    return between(script, 1, times) == 1;
-}
-
-/* At the limit, one below or one above it. */
-static int near(struct script *script, int limit)
-{
-    return limit + between(script, -1, 1);
-}
-
-static int hold(int value, int least, int greatest)
-{
-    return value < least ? least : value > greatest ? greatest : value;
-}
 
 static int r(const struct script *script, unsigned number)
 {

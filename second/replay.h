@@ -1,0 +1,42 @@
+/* W-211: "Replay a returned week." A recording is read from standard input and played into a board. */
+#ifndef REPLAY_H
+#define REPLAY_H
+
+#include "board.h"
+
+enum {
+    OPENING_BYTES = 4,
+    RECORD_BYTES = 48,
+    MOST_ENGINE_TICKS = 600     /* "at every tick of recordings up to 600 ticks" */
+};
+
+/* One tick as it was recorded. */
+struct record {
+    struct readings readings;
+    size_t cells;
+    uint16_t cell[MOST_CELLS];
+    uint32_t other_bits;        /* of the flag byte and after it: "others zero", "three zero bytes" */
+};
+
+struct replay {
+    struct board board;         /* as after the last good tick */
+    struct record record;       /* the latest one read */
+    uint64_t ticks;             /* accepted */
+    enum number number;         /* other than DONE: it is over */
+    const char *meaning;        /* of that number */
+};
+
+void begin_replay(struct replay *replay);
+bool play_tick(struct replay *replay);      /* false where there is no other good record */
+
+/* "It prints a line for each event", and at the end how it went; gives back whether nothing is refused. */
+bool replay_recording(void);
+
+/* Whether the board and the plain engine agree at every tick; else it says where they do not. */
+bool engine_agrees(void);
+
+/* Writes a recording to standard output, always the same for one seed; damage is NULL or the name of one. False where
+   there is no damage of that name. */
+bool write_recording(uint64_t seed, uint64_t ticks, const char *damage);
+
+#endif
