@@ -7,16 +7,13 @@ use Rattle.terminal.proofs.answer_all.Statement.{statement}
 use Rattle.terminal.proofs.answer_all.Tie as tie
 
 abbrev Inv-loop : tie.InvT-loop
-Inv-loop prompts block₀ line₀ request₀ voltages₀ reply₀ out₀ answer₀ held₀ turns₀ count₀ t13 block line request voltages reply out answer held turns count = (length block ≡ length block₀) × (length line ≡ length line₀) × (length request ≡ length request₀) × (length voltages ≡ length voltages₀) × (length reply ≡ length reply₀) × (length out ≡ length out₀)
+Inv-loop prompts block₀ line₀ out₀ board₀ held₀ turns₀ count₀ t11 block line out board held turns count = (length block ≡ length block₀) × (length line ≡ length line₀) × (length out ≡ length out₀)
 
 abbrev μ-loop : tie.MeasureT-loop
-μ-loop prompts block₀ line₀ request₀ voltages₀ reply₀ out₀ answer₀ held₀ turns₀ count₀ t13 block line request voltages reply out answer held turns count = turns
+μ-loop prompts block₀ line₀ out₀ board₀ held₀ turns₀ count₀ t11 block line out board held turns count = turns
 
 start-requires : tie.Need-start-requires Inv-loop μ-loop
 start-requires c κs = tt
-
-told-requires : tie.Need-told-requires Inv-loop μ-loop
-told-requires c κs = tt
 
 block-read-requires : tie.Need-block-read-requires Inv-loop μ-loop
 block-read-requires c κs = tt
@@ -55,16 +52,16 @@ block-read-requires-2 : tie.Need-block-read-requires-2 Inv-loop μ-loop
 block-read-requires-2 c κs = tt
 
 sub-turns : tie.Need-sub-turns Inv-loop μ-loop
-sub-turns c = omega (arith, c .before .before .before .before .before .before .before .before .before .before .before .before .before .before .before .before .before .before .before .before .before .before .before .before .before .before .before)
+sub-turns c = omega (arith, c .before .before .before .before .before .before .before .before .before .before .before .before .before .before .before .before .before .before)
 
 loop-less : tie.Need-loop-less Inv-loop μ-loop
-loop-less c = omega (arith, c .before .before .before .before .before .before .before .before .before .before .before .before .before .before .before .before .before .before .before .before .before .before .before .before .before .before .before)
+loop-less c = omega (arith, c .before .before .before .before .before .before .before .before .before .before .before .before .before .before .before .before .before .before)
 
 loop-again : tie.Need-loop-again Inv-loop μ-loop
 loop-again c =
-    let inv = c .before .before .before .before .before .before .before .before .before .before .before .before .before .before .before .before .before .before .before .before .before .before .before .before .before .before .before .before .before .before .before .loop .inv in
-    let done = c .before .before .before .before .before .before .before .before .before .before in
-    (omega (arith, inv), omega (arith, inv, done), omega (arith, inv, done), omega (arith, inv, done), omega (arith, inv, done), omega (arith, inv, done))
+    let inv = c .before .before .before .before .before .before .before .before .before .before .before .before .before .before .before .before .before .before .before .before .before .before .loop .inv in
+    let done = c .before .before .before .before .before .before in
+    (omega (arith, inv), omega (arith, inv, done), omega (arith, inv, done))
 
 slice-aggregate-block-answered : tie.Need-slice-aggregate-block-answered Inv-loop μ-loop
 slice-aggregate-block-answered c = search needs
@@ -81,15 +78,6 @@ same-length-2 c = search needs
 same-length-3 : tie.Need-same-length-3 Inv-loop μ-loop
 same-length-3 c = search needs
 
-same-length-4 : tie.Need-same-length-4 Inv-loop μ-loop
-same-length-4 c = search needs
-
-same-length-5 : tie.Need-same-length-5 Inv-loop μ-loop
-same-length-5 c = search needs
-
-same-length-6 : tie.Need-same-length-6 Inv-loop μ-loop
-same-length-6 c = search needs
-
 returns : tie.Need-returns Inv-loop μ-loop
 returns c = search needs
 
@@ -100,7 +88,6 @@ answer-all-spec =
     Inv-loop
     μ-loop
     start-requires
-    told-requires
     block-read-requires
     loop-holds
     least-requires
@@ -121,7 +108,4 @@ answer-all-spec =
     same-length
     same-length-2
     same-length-3
-    same-length-4
-    same-length-5
-    same-length-6
     returns)

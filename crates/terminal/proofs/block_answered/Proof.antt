@@ -8,10 +8,10 @@ use Rattle.terminal.proofs.block_answered.Statement.{statement}
 use Rattle.terminal.proofs.block_answered.Tie as tie
 
 abbrev Inv-loop : tie.InvT-loop
-Inv-loop answer₀ block line₀ held₀ request₀ voltages₀ reply₀ out₀ said₀ from₀ end₀ answer line held request voltages reply out said from end = (from ≤ end) × (length line ≡ length line₀) × (length request ≡ length request₀) × (length voltages ≡ length voltages₀) × (length reply ≡ length reply₀) × (length out ≡ length out₀)
+Inv-loop board₀ block line₀ held₀ out₀ request₀ voltages₀ said₀ from₀ end₀ board line held out request voltages said from end = (from ≤ end) × (length line ≡ length line₀) × (length out ≡ length out₀) × (300 ≡ length request) × (32 ≡ length voltages)
 
 abbrev μ-loop : tie.MeasureT-loop
-μ-loop answer₀ block line₀ held₀ request₀ voltages₀ reply₀ out₀ said₀ from₀ end₀ answer line held request voltages reply out said from end = length block - end
+μ-loop board₀ block line₀ held₀ out₀ request₀ voltages₀ said₀ from₀ end₀ board line held out request voltages said from end = length block - end
 
 line-end-requires : tie.Need-line-end-requires Inv-loop μ-loop
 line-end-requires c κs = tt
@@ -28,6 +28,12 @@ part-piece-call-start c = search needs
 part-piece-call-end : tie.Need-part-piece-call-end Inv-loop μ-loop
 part-piece-call-end c = search needs
 
+slice-aggregate-piece-call : tie.Need-slice-aggregate-piece-call Inv-loop μ-loop
+slice-aggregate-piece-call c = search needs
+
+slice-aggregate-piece-call-2 : tie.Need-slice-aggregate-piece-call-2 Inv-loop μ-loop
+slice-aggregate-piece-call-2 c = search needs
+
 piece-call-requires : tie.Need-piece-call-requires Inv-loop μ-loop
 piece-call-requires c κs = tt
 
@@ -37,25 +43,25 @@ add-from c = search needs
 line-end-requires-2 : tie.Need-line-end-requires-2 Inv-loop μ-loop
 line-end-requires-2 c κs = tt
 
-made-requires : tie.Need-made-requires Inv-loop μ-loop
-made-requires c κs = tt
+slice-aggregate-answered : tie.Need-slice-aggregate-answered Inv-loop μ-loop
+slice-aggregate-answered c = search needs
 
-state-of-requires : tie.Need-state-of-requires Inv-loop μ-loop
-state-of-requires c κs = tt
+slice-aggregate-answered-2 : tie.Need-slice-aggregate-answered-2 Inv-loop μ-loop
+slice-aggregate-answered-2 c = search needs
 
-put-answer-requires : tie.Need-put-answer-requires Inv-loop μ-loop
-put-answer-requires c κs = tt
+answered-requires : tie.Need-answered-requires Inv-loop μ-loop
+answered-requires c κs = tt
 
 with-room-requires : tie.Need-with-room-requires Inv-loop μ-loop
 with-room-requires c κs = tt
 
 loop-less : tie.Need-loop-less Inv-loop μ-loop
-loop-less c = omega (arith, c .before .before .before .before .before .before .before .before .before .before .before .before .before .before)
+loop-less c = omega (arith, c .before .before .before .before .before .before .before .before .before)
 
 loop-again : tie.Need-loop-again Inv-loop μ-loop
 loop-again c =
-    let next = c .before .before .before .before .before .before .before .before .before .before .before .before .before .before in
-    (omega (arith, next), omega (arith, next), omega (arith, next), omega (arith, next), omega (arith, next), omega (arith, next))
+    let next = c .before .before .before .before .before .before .before .before .before in
+    (omega (arith, next), omega (arith, next), omega (arith, next), omega (arith, next), omega (arith, next))
 
 written-requires : tie.Need-written-requires Inv-loop μ-loop
 written-requires c κs = tt
@@ -65,15 +71,6 @@ same-length c = search needs
 
 same-length-2 : tie.Need-same-length-2 Inv-loop μ-loop
 same-length-2 c = search needs
-
-same-length-3 : tie.Need-same-length-3 Inv-loop μ-loop
-same-length-3 c = search needs
-
-same-length-4 : tie.Need-same-length-4 Inv-loop μ-loop
-same-length-4 c = search needs
-
-same-length-5 : tie.Need-same-length-5 Inv-loop μ-loop
-same-length-5 c = search needs
 
 returns : tie.Need-returns Inv-loop μ-loop
 returns c = search needs
@@ -89,19 +86,18 @@ block-answered-spec =
     sub-piece-call
     part-piece-call-start
     part-piece-call-end
+    slice-aggregate-piece-call
+    slice-aggregate-piece-call-2
     piece-call-requires
     add-from
     line-end-requires-2
-    made-requires
-    state-of-requires
-    put-answer-requires
+    slice-aggregate-answered
+    slice-aggregate-answered-2
+    answered-requires
     with-room-requires
     loop-less
     loop-again
     written-requires
     same-length
     same-length-2
-    same-length-3
-    same-length-4
-    same-length-5
     returns)

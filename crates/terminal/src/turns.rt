@@ -1,0 +1,103 @@
+// A call that is made on the board, and its answer, put behind those that wait.
+use crate::answers::State;
+use crate::answers::put_crc;
+use crate::answers::put_heard;
+use crate::answers::put_mark;
+use crate::answers::put_replied;
+use crate::answers::put_shown;
+use crate::answers::put_told;
+use crate::calls::Call;
+use crate::calls::MOST_ROOM;
+use crate::calls::least;
+use board::Answer;
+use board::Board;
+use board::Heard;
+
+// What a reply buffer holds before a call, so that a byte that the call leaves alone shows.
+const FILLING: u8 = 0x5A;
+
+// The board after a line, and how many bytes of answers wait.
+pub(crate) struct Turn {
+    pub board: Board,
+    pub said: usize,
+}
+
+// A line that is no call of the board leaves it alone.
+pub(crate) fn answered(
+    board: Board,
+    call: Call,
+    request: &[u8],
+    voltages: &[u16],
+    out: &mut [u8],
+    said: usize,
+) -> Turn {
+    match call {
+        Call::Nothing => after(board, said),
+        Call::Wrong => after(board, put_mark(out, said, b'?')),
+        Call::Start { cells, per_km } => told(Board::start(cells, per_km), out, said),
+        Call::Tick { readings, count } => {
+            let given = least(count, voltages.len());
+            told(board.tick(&voltages[0..given], readings), out, said)
+        }
+        Call::Frame { room, count } => {
+            let length = least(count, request.len());
+            let mut reply = [FILLING; MOST_ROOM];
+            let lent = least(room, MOST_ROOM);
+            framed(board, &request[0..length], &mut reply[0..lent], out, said)
+        }
+        Call::Offer(count) => {
+            let length = least(count, request.len());
+            heard(board.offer(&request[0..length]), out, said)
+        }
+        Call::Fetch(room) => {
+            let mut reply = [FILLING; MOST_ROOM];
+            let lent = least(room, MOST_ROOM);
+            fetched(board, &mut reply[0..lent], out, said)
+        }
+        Call::Handover => told(board.handover(), out, said),
+        Call::Crc(crc) => after(board, put_crc(out, said, crc)),
+        Call::Register(at) => shown(board, at, out, said),
+    }
+}
+
+fn after(board: Board, said: usize) -> Turn {
+    Turn { board, said }
+}
+
+fn told(answer: Answer, out: &mut [u8], said: usize) -> Turn {
+    let state = state_of(answer.board, answer.number);
+    after(answer.board, put_told(out, said, state))
+}
+
+fn framed(board: Board, request: &[u8], reply: &mut [u8], out: &mut [u8], said: usize) -> Turn {
+    let answer = board.frame(request, reply);
+    let state = state_of(answer.board, answer.number);
+    after(answer.board, put_replied(out, said, state, reply))
+}
+
+fn fetched(board: Board, reply: &mut [u8], out: &mut [u8], said: usize) -> Turn {
+    let answer = board.fetch(reply);
+    let state = state_of(answer.board, answer.number);
+    after(answer.board, put_replied(out, said, state, reply))
+}
+
+fn heard(heard: Heard, out: &mut [u8], said: usize) -> Turn {
+    let state = state_of(heard.board, heard.number);
+    after(heard.board, put_heard(out, said, state, heard.taken))
+}
+
+fn shown(board: Board, at: u16, out: &mut [u8], said: usize) -> Turn {
+    let register = board.register(at);
+    after(board, put_shown(out, said, register))
+}
+
+// What is shown after a call.
+fn state_of(board: Board, number: u8) -> State {
+    State {
+        number,
+        charge: board.charge_switch(),
+        discharge: board.discharge_switch(),
+        need: board.decision_bits(),
+        real: board.balancing_bits(),
+    }
+}
