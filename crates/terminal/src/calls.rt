@@ -27,8 +27,8 @@ pub(crate) enum Call {
     Start { cells: u8, per_km: u16 },
     Tick { readings: Readings, count: usize },
     Frame { room: usize, count: usize },
-    Offer(usize),
-    Fetch(usize),
+    Offer { count: usize },
+    Fetch { room: usize },
     Handover,
     Crc(u16),
     Register(u16),
@@ -144,7 +144,7 @@ fn frame_call(line: &[u8], from: usize, request: &mut [u8]) -> Call {
 fn offer_call(line: &[u8], from: usize, request: &mut [u8]) -> Call {
     let given = bytes(line, from, request);
     match given {
-        Series::Of(count) => Call::Offer(count),
+        Series::Of(count) => Call::Offer { count },
         Series::Wrong => Call::Wrong,
     }
 }
@@ -152,7 +152,9 @@ fn offer_call(line: &[u8], from: usize, request: &mut [u8]) -> Call {
 fn fetch_call(line: &[u8], from: usize) -> Call {
     let room = number(line, from, MOST_ROOM as u32);
     if room.good & is_last(line, room.next) {
-        return Call::Fetch(room.value as usize);
+        return Call::Fetch {
+            room: room.value as usize,
+        };
     }
     Call::Wrong
 }

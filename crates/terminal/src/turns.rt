@@ -45,11 +45,11 @@ pub(crate) fn answered(
             let lent = least(room, MOST_ROOM);
             framed(board, &request[0..length], &mut reply[0..lent], out, said)
         }
-        Call::Offer(count) => {
+        Call::Offer { count } => {
             let length = least(count, request.len());
             heard(board.offer(&request[0..length]), out, said)
         }
-        Call::Fetch(room) => {
+        Call::Fetch { room } => {
             let mut reply = [FILLING; MOST_ROOM];
             let lent = least(room, MOST_ROOM);
             fetched(board, &mut reply[0..lent], out, said)
@@ -69,6 +69,8 @@ fn told(answer: Answer, out: &mut [u8], said: usize) -> Turn {
     after(answer.board, put_told(out, said, state))
 }
 
+// A frame, a fetch and a register read the board in memory. Each has a function of its own, which copies it there for its own
+// lines; in the match above every line would copy it.
 fn framed(board: Board, request: &[u8], reply: &mut [u8], out: &mut [u8], said: usize) -> Turn {
     let answer = board.frame(request, reply);
     let state = state_of(answer.board, answer.number);
