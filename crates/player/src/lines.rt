@@ -43,21 +43,21 @@ pub(crate) fn put_progress(ticks: usize, turns: u64) {
 
 fn put_how_far(ticks: usize) {
     if libc::isatty(MESSAGES) == 1 {
-        put_ticks(b"replay", ticks);
+        put_ticks(ticks);
         io::write_all(MESSAGES, b"\r");
     }
 }
 
-fn put_ticks(name: &[u8], ticks: usize) {
-    io::write_all(MESSAGES, name);
-    io::write_all(MESSAGES, b": ");
+fn put_ticks(ticks: usize) {
     io::print_decimal(MESSAGES, ticks as u64);
     io::write_all(MESSAGES, b" ticks");
 }
 
 // NAME: N ticks, and the number with its meaning where there is one.
 pub fn tell(name: &[u8], played: Played) {
-    put_ticks(name, played.ran.accepted);
+    io::write_all(MESSAGES, name);
+    io::write_all(MESSAGES, b": ");
+    put_ticks(played.ran.accepted);
     let number = played.ran.number;
     if number != 0 {
         io::write_all(MESSAGES, b", ");
