@@ -89,6 +89,23 @@ module _ {count : ℕ} {s : List ℕ} {j n : ℕ} {seen : Remembered} {unbroken 
   pub done : n ≤ i → unbroken ≡ unbrokenHot (take (n - j) (momentsOf count s n))
   done h = let e : i ≡ n = omega (arith, g .within) in g .so-far ∙ ap (λ (k : ℕ). unbrokenHot (stretch count s j k)) e
 
+  -- what is broken stays so, whatever comes
+  broken-on : unbroken ≡ false → (k : ℕ) (to : ℕ) → i + k ≡ to → unbrokenHot (stretch count s j to) ≡ false
+  broken-on e zero to d =
+      let f : to ≡ i = omega arith in
+      ap (λ (t : ℕ). unbrokenHot (stretch count s j t)) f ∙ sym (g .so-far) ∙ e
+  broken-on e (suc k) to d =
+      let m = momentAt count s (i + k) in
+      let f : to ≡ i + k + 1 = omega arith in
+      let l = length-moments count s (i + k) in
+      ap (λ (t : ℕ). unbrokenHot (stretch count s j t)) f
+      ∙ ap unbrokenHot (stretch-next count s j (i + k) (omega (arith, g .within)))
+      ∙ more m (i + k - j) (momentsOf count s (i + k)) (omega (arith, g .within)) (omega arith)
+      ∙ ap (λ (b : Bool). b && staysHot (connectedAtAny (m ∷ stretch count s j (i + k))) m) (broken-on e k (i + k) refl)
+
+  pub broken : unbroken ≡ false → unbroken ≡ unbrokenHot (take (n - j) (momentsOf count s n))
+  broken e = e ∙ sym (broken-on e (n - i) n (omega (arith, g .within)))
+
 -- ---- the stretch to try: those from before tick j are broken
 
 pub record Tries (count : ℕ) (s : List ℕ) (n j : ℕ) : Type 0 where

@@ -93,7 +93,7 @@ fn is_unbroken(records: &[u8], count: u8, first: usize, ticks: usize) -> bool
     let mut seen = connected(records, count, first);
     let mut unbroken = held(records, count, first, Condition::OT);
     let mut tick = first + 1;
-    while tick < ticks {
+    while tick < ticks && unbroken {
         let now = connected(records, count, tick);
         seen = either(now, seen);
         unbroken = unbroken & stays(records, count, tick, seen);

@@ -1,7 +1,7 @@
 // Answers as text, put into the output buffer from a place on; each function gives the place after it. The room is seen
 // to before each answer.
-use crate::calls::least;
 use board::Shown;
+use output::least;
 use text::LF;
 use text::SPACE;
 use text::put;

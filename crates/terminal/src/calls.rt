@@ -1,5 +1,5 @@
 // A line into the call that it asks for.
-ghost use Prim.Native.Nat.{_≤_};
+use output::least;
 use readings::Readings;
 use text::Series;
 use text::after_word;
@@ -197,10 +197,4 @@ fn lowered_32(value: u64) -> i32 {
     } else {
         (bits - 2147483648) as i32
     }
-}
-
-pub(crate) fn least(a: usize, b: usize) -> usize
-    ensures { λ r. ⌜ r ≤ b ⌝ }
-{
-    if a < b { a } else { b }
 }

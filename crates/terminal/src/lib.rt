@@ -9,17 +9,17 @@ use crate::calls::Call;
 use crate::calls::MOST_BYTES;
 use crate::calls::MOST_CELLS;
 use crate::calls::call_of;
-use crate::calls::least;
 use crate::turns::answered;
 use board::Board;
+use output::least;
+use output::with_room;
+use output::written;
 use text::LF;
 use text::appended;
 use text::line_end;
 use text::without_cr;
 
 const INPUT: i32 = 0;
-
-const OUTPUT: i32 = 1;
 
 const MESSAGES: i32 = 2;
 
@@ -85,7 +85,7 @@ fn block_answered(
         held = 0;
         let turn = answered(board, call, &request, &voltages, out, said);
         board = turn.board;
-        said = with_room(out, turn.said);
+        said = with_room(out, turn.said, ANSWER_ROOM);
     }
     written(out, said);
     board
@@ -134,21 +134,4 @@ fn piece_call(
 fn whole_call(line: &[u8], request: &mut [u8], voltages: &mut [u16]) -> Call {
     let length = without_cr(line);
     call_of(&line[0..length], request, voltages)
-}
-
-// How many bytes of answers wait, once there is room for another.
-fn with_room(out: &[u8], said: usize) -> usize {
-    if out.len() < ANSWER_ROOM {
-        return said;
-    }
-    if said <= out.len() - ANSWER_ROOM {
-        return said;
-    }
-    written(out, said)
-}
-
-fn written(out: &[u8], said: usize) -> usize {
-    let count = least(said, out.len());
-    io::write_all(OUTPUT, &out[0..count]);
-    0
 }

@@ -8,10 +8,10 @@ use crate::answers::put_shown;
 use crate::answers::put_told;
 use crate::calls::Call;
 use crate::calls::MOST_ROOM;
-use crate::calls::least;
 use board::Answer;
 use board::Board;
 use board::Heard;
+use output::least;
 
 // What a reply buffer holds before a call, so that a byte that the call leaves alone shows.
 const FILLING: u8 = 0x5A;

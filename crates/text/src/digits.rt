@@ -64,7 +64,7 @@ pub fn put_bytes(out: &mut [u8], at: usize, bytes: &[u8]) -> usize
 }
 
 // Are there so many places from a place on?
-pub(crate) fn has_room(length: usize, at: usize, count: usize) -> bool
+pub fn has_room(length: usize, at: usize, count: usize) -> bool
     ensures { λ r. ⌜ r ≡ leb (at + count) length ⌝ }
 {
     if at <= length {

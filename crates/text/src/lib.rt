@@ -3,6 +3,7 @@ mod digits;
 mod lines;
 mod words;
 
+pub use digits::has_room;
 pub use digits::put;
 pub use digits::put_byte;
 pub use digits::put_bytes;

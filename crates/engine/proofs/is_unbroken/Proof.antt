@@ -1,7 +1,7 @@
--- From the first tick on, tick by tick. Assumes nothing.
+-- From the first tick on, tick by tick, until one breaks it. Assumes nothing.
 use Prim.Native.Nat.{_-_}
 use Rattle.guard.specs.Table.{is}
-use Rattle.engine.proofs.Stretch.{Stretch, begun, next, done}
+use Rattle.engine.proofs.Stretch.{Stretch, begun, next, done, broken}
 use borrow.Author.Needs.{needs}
 use Rattle.engine.proofs.is_unbroken.Statement.{statement}
 use Rattle.engine.proofs.is_unbroken.Tie as tie
@@ -43,10 +43,13 @@ loop-less c = search needs
 loop-again : tie.Need-loop-again Inv-loop μ-loop
 loop-again c =
     let connected = c .before .before in
-    next (connected .before .before .loop .inv) (search needs) (connected .connected2 .ensures) (c .before .either .ensures) (c .stays .ensures)
+    next (connected .before .before .before .loop .inv) (search needs) (connected .connected2 .ensures) (c .before .either .ensures) (c .stays .ensures)
 
 returns : tie.Need-returns Inv-loop μ-loop
-returns c = done (c .before .loop .inv) (search needs)
+returns c = broken (c .before .before .loop .inv) (search needs)
+
+returns-2 : tie.Need-returns-2 Inv-loop μ-loop
+returns-2 c = done (c .before .loop .inv) (search needs)
 
 pub is-unbroken-spec : {M : Type 1} → statement M
 is-unbroken-spec =
@@ -64,4 +67,5 @@ is-unbroken-spec =
     add-tick-2
     loop-less
     loop-again
-    returns)
+    returns
+    returns-2)
