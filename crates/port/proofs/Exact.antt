@@ -111,10 +111,10 @@ asked s pl =
 
 -- ---- a reply in its buffer
 
-abbrev Exact : ℕ → List ℕ → Type 0
+abbrev pub Exact : ℕ → List ℕ → Type 0
 Exact room reply = take (lengthIn (padded room reply)) (padded room reply) ≡ reply
 
-padded-length : (room : ℕ) (reply : List ℕ) → length reply ≤ room → length (padded room reply) ≡ room
+pub padded-length : (room : ℕ) (reply : List ℕ) → length reply ≤ room → length (padded room reply) ≡ room
 unfolding padded
 padded-length room reply h = length-append reply (replicate (room - length reply) 0) ∙ ap (λ (n : ℕ). length reply + n) (length-replicate (room - length reply) 0) ∙ omega arith
 
@@ -122,7 +122,7 @@ zero-first : (n : ℕ) → eqb (getD (replicate n 0) 0 0) 0xAA ≡ false
 zero-first zero = refl
 zero-first (suc n) = refl
 
-none : (room : ℕ) → Exact room []
+pub none : (room : ℕ) → Exact room []
 unfolding lengthIn padded
 none room = rw (zero-first (room - 0)) (go (ltb (length (replicate {A = ℕ} (room - 0) 0)) 259))
   where
