@@ -141,7 +141,7 @@ one-turn : (b : Board) (bytes more : List ℕ) (ts : List Turn) → usable b ≡
 unfolding step flatten
 one-turn b bytes more ts some =
     let whole : take (length bytes) (bytes ++ more) ≡ bytes =
-        (let e : length bytes ≡ length bytes + 0 = omega arith in ap (λ (k : ℕ). take k (bytes ++ more)) e) ∙ take-append-add bytes more 0 ∙ append-nil bytes
+    (let e : length bytes ≡ length bytes + 0 = omega arith in ap (λ (k : ℕ). take k (bytes ++ more)) e) ∙ take-append-add bytes more 0 ∙ append-nil bytes
     in
     let rest : drop (offerOf b bytes .taken) (bytes ++ more) ≡ drop (offerOf b bytes .taken) bytes ++ more = drop-append-le _ bytes more (within b some bytes) in
     rw (whole, rest) (go (heard b bytes) (heard-usable b some bytes) (drop (offerOf b bytes .taken) bytes ++ more))

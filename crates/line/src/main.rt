@@ -22,7 +22,10 @@ fn play_and_listen() {
     let length = os::arg(1, &mut name);
     let file = os::open_read(&name[..length]);
     if file < 0 {
-        io::write_all(MESSAGES, b"line: 0 ticks, 62: the recording cannot be read\n");
+        io::write_all(
+            MESSAGES,
+            b"line: 0 ticks, 62: the recording cannot be read\n",
+        );
     } else {
         let played = player::play(file, false);
         if played.ran.number != 0 {

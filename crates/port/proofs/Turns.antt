@@ -41,7 +41,7 @@ module _ {b₀ : Board} {bytes : List ℕ} {b : Board} {rest : List ℕ} {turns 
       let fewer : suc (length bytes) - turns - 1 ≡ suc (length bytes) - (turns + 1) = omega arith in
       let whole : take (length rest - n) (drop n rest) ≡ drop n rest = take-all (length rest - n) (drop n rest) (simp length-drop (omega arith)) in
       let all : take (length rest - n) (drop n rest) ≡ drop (turnOf b rest 259 .taken) rest =
-          whole ∙ ap (λ (i : ℕ). drop i rest) k ∙ dropped (t .taken) rest ∙ ap (λ (x : Turn). drop (x .taken) rest) e
+      whole ∙ ap (λ (i : ℕ). drop i rest) k ∙ dropped (t .taken) rest ∙ ap (λ (x : Turn). drop (x .taken) rest) e
       in
       record {
         within = omega arith;
