@@ -26,4 +26,7 @@ void print_script(uint64_t seed, uint64_t calls, enum script_kind kind);
 /* Prints the named script that drives a count to its end; false where there is none of that name. */
 bool print_limits(const char *name);
 
+/* Answers a raw line from standard input on standard output, until it ends. */
+void serve_line(void);
+
 #endif

@@ -5,6 +5,8 @@
    second --limits NAME            prints a script that drives a count to its end; limits.c has the names
    second --compare NAME SCRIPT    holds the board's answers, on standard input, to its own answers to the file SCRIPT
    second --replay                 plays a recording from standard input, and prints its events
+   second --calls                  prints a recording from standard input as calls
+   second --line                   answers a raw line from standard input on standard output
    second --engine                 holds the board to the plain engine, on a recording of up to 600 ticks
    second --record SEED TICKS      writes a recording to standard output
    second --record SEED TICKS D    the same with one damage; record.c has the names
@@ -205,6 +207,12 @@ static int obey_words(int words, char **word)
     const char *order = words > 1 ? word[1] : "";
     if (words == 2 && strcmp(order, "--replay") == 0)
         return replay_recording() ? ALL_WELL : FAILED;
+    if (words == 2 && strcmp(order, "--calls") == 0)
+        return print_calls() ? ALL_WELL : FAILED;
+    if (words == 2 && strcmp(order, "--line") == 0) {
+        serve_line();
+        return ALL_WELL;
+    }
     if (words == 2 && strcmp(order, "--engine") == 0)
         return engine_agrees() ? ALL_WELL : FAILED;
     if ((words == 4 || words == 5) && strcmp(order, "--record") == 0)
@@ -229,7 +237,8 @@ int main(int words, char **word)
     if (status == WRONG_WORDS)
         fputs("usage: second | second --fault 1..6 | second --script SEED CALLS [ticks|frames]\n"
               "       second --limits latchings|currents|distance|event-time | second --compare NAME SCRIPT\n"
-              "       second --replay | second --engine | second --record SEED TICKS [DAMAGE], DAMAGE one of\n"
+              "       second --replay | second --calls | second --engine | second --line\n"
+              "       second --record SEED TICKS [DAMAGE], DAMAGE one of\n"
               "       cell flag padding current internal pulses cut opening-cut opening-padding opening-count\n", stderr);
     return status == ALL_WELL && (fflush(stdout) != 0 || ferror(stdout)) ? FAILED : status;
 }

@@ -32,6 +32,9 @@ bool play_tick(struct replay *replay);      /* false where there is no other goo
 /* "It prints a line for each event", and at the end how it went; gives back whether nothing is refused. */
 bool replay_recording(void);
 
+/* A recording as calls that the console takes; gives back whether nothing is refused. */
+bool print_calls(void);
+
 /* Whether the board and the plain engine agree at every tick; else it says where they do not. */
 bool engine_agrees(void);
 

@@ -10,3 +10,4 @@ pub mod ReadsBack
 pub mod Rounding
 pub mod RawLine
 pub mod Streams
+pub mod SerialLine

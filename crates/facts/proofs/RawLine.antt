@@ -50,7 +50,7 @@ pub record Ran : Type 0 where
   pub board : Board
   pub left : List ℕ
 
-abbrev replied : Reply → Ran → Ran
+abbrev pub replied : Reply → Ran → Ran
 replied a r = record { replies = a ∷ r .replies; board = r .board; left = r .left }
 
 -- a fetch is answered if its number is none of 1, 7 and 21
@@ -85,7 +85,7 @@ fits n xs h l =
     ∙ take-append-add xs (replicate (n - length xs) 0) (259 - length xs)
     ∙ ap (λ (l : List ℕ). xs ++ l) (zeros (259 - length xs) (n - length xs) (omega arith))
 
-is-reply : (b : Board) (s : List ℕ) (q : Request) → isReply (requestNumber b s q) ≡ true
+pub is-reply : (b : Board) (s : List ℕ) (q : Request) → isReply (requestNumber b s q) ≡ true
 unfolding requestNumber refusalNumber settings.numberOf
 is-reply b s (request.Refused Foreign) = refl
 is-reply b s (request.Refused (Damaged command)) = refl
@@ -113,7 +113,7 @@ changed-usable b s request.ClearStatistics = refl
 changed-usable b s (request.Write from n) = refl
 changed-usable b s (request.Read q) = refl
 
-frame-usable : (b : Board) (s : List ℕ) (room : ℕ) → usable (frameBoard b s room) ≡ usable b
+pub frame-usable : (b : Board) (s : List ℕ) (room : ℕ) → usable (frameBoard b s room) ≡ usable b
 unfolding frameBoard requestBoard
 frame-usable b s room = go (usable b) (ltb room 259) (eqb (requestNumber b s (requestOf s)) 0)
   where

@@ -1,0 +1,242 @@
+-- The program's loop at the end of a serial line loses no byte and writes exactly the replies: for any reads in a row, what it lends to be
+-- written is, one after the other, `frame`'s own replies to the frames of the whole stream. Why: its turns are a cutting of the stream (RawLine),
+-- a turn on a board that holds no frame takes a byte at least, and the bytes told to be a reply are the reply (crate `port`, Exact).
+-- Assumes nothing.
+use mathlib.Core.Path.{_≡_, refl, sym, ap, ap₂, _∙_, subst}
+use mathlib.Core.Bool.{Bool, true, false, cond}
+use mathlib.Core.List.{List, [], _∷_, _++_, flatten, map, append-assoc, append-nil}
+use Prim.Native.Nat.{ℕ, zero, suc, _+_, _-_, _≤_, _<_, min}
+use native.Mathlib.Nat.{not-suc-le-zero}
+use native.Mathlib.Omega.{arith}
+use lib.Dec.{eqb, ltb}
+use lib.ListN.{length, take, drop, length-drop, length-append}
+use lib.Seq.{take-append-add, drop-append-le, take-all}
+use Rattle.receiver.specs.declared.Receiver.{Receiver}
+use Rattle.receiver.specs.declared.Offered.{Offered}
+use Rattle.receiver.specs.Receiver.{noBytes, heldOf, isHeld, withByte, taken, filled, offeredOf}
+use Rattle.receiver.specs.Line.{Turn, offers, fetches, cut, repliesTo, after}
+use Rattle.receiver.proofs.Through.{none-held}
+use Rattle.requests.specs.Requests.{requestOf}
+use Rattle.wire.specs.Wire.{padded}
+use Rattle.board.specs.declared.Board.{Board}
+use Rattle.board.specs.State.{usable, withReceiver}
+use Rattle.board.specs.Frames.{requestReply, frameNumber, frameBoard, frameReply}
+use Rattle.board.specs.Line.{heldIn, holds, offerOf, fetchNumber, fetchBoard, fetchReply}
+use Rattle.board.specs.Calls.{offer, fetch, step}
+use Rattle.board.proofs.Replies.{reply-length}
+use Rattle.port.specs.Port.{lengthIn, bufferOf, turnOf, Served, turnsOf, servedOf}
+use Rattle.port.proofs.Exact.{padded-length, none, exact}
+use Rattle.facts.proofs.RawLine.{Reply, answer, Ran, replied, isReply, runs, Ended, is-reply, frame-usable, any-cutting}
+
+-- ---- what is stated
+
+-- reads in a row: all that is lent to be written, and the board after them
+abbrev pub written : Board → List (List ℕ) → List ℕ
+written b [] = []
+written b (bytes ∷ more) = flatten (servedOf b bytes .replies) ++ written (servedOf b bytes .board) more
+
+abbrev pub boardAfter : Board → List (List ℕ) → Board
+boardAfter b [] = b
+boardAfter b (bytes ∷ more) = boardAfter (servedOf b bytes .board) more
+
+-- a frame's board, and the bytes of its reply alone
+abbrev pub replyOf : Board → List ℕ → Board × List ℕ
+replyOf b s = (frameBoard b s 259, requestReply b s (requestOf s))
+
+pub record Serves (b : Board) (reads : List (List ℕ)) : Type 0 where
+  pub replies : written b reads ≡ flatten (repliesTo replyOf b (cut 0 (flatten reads) .frames))
+  pub board : boardAfter b reads ≡ withReceiver (after replyOf b (cut 0 (flatten reads) .frames)) (boardAfter b reads .hire .receiver)
+  pub held : heldIn (boardAfter b reads) ≡ cut 0 (flatten reads) .rest
+
+-- ---- a turn
+
+abbrev told : List ℕ → List ℕ
+told buffer = take (lengthIn buffer) buffer
+
+taken-within : (bs : List ℕ) (r : Receiver) → taken r bs ≤ length bs
+taken-within [] r = omega arith
+taken-within (b ∷ bs) r = go (isHeld r) (taken-within bs (withByte r b))
+  where
+    go : (t : Bool) → taken (withByte r b) bs ≤ length bs → cond t 0 (suc (taken (withByte r b) bs)) ≤ suc (length bs)
+    go true h = omega arith
+    go false h = omega arith
+
+-- a buffer that the board fills has as many bytes as there is room
+filled-whole : (b : Board) (s : List ℕ) → take 259 (padded 259 (requestReply b s (requestOf s))) ≡ padded 259 (requestReply b s (requestOf s))
+filled-whole b s =
+    let e = padded-length 259 (requestReply b s (requestOf s)) (reply-length b s (requestOf s)) in
+    take-all 259 (padded 259 (requestReply b s (requestOf s))) (omega (arith, e))
+
+abbrev heard : Board → List ℕ → Board
+heard b bytes = offerOf b bytes .board
+
+module _ (b : Board) (some : usable b ≡ true) (bytes : List ℕ) where
+  within : offerOf b bytes .taken ≤ length bytes
+  unfolding offerOf offeredOf
+  within = rw some (go (isHeld (b .hire .receiver)) (taken-within bytes (b .hire .receiver)))
+    where
+      go : (t : Bool) → taken (b .hire .receiver) bytes ≤ length bytes
+          → cond {A = Offered} t (record { number = 6; taken = 0; receiver = b .hire .receiver }) (record { number = 0; taken = taken (b .hire .receiver) bytes; receiver = filled (b .hire .receiver) bytes }) .taken ≤ length bytes
+      go true h = omega arith
+      go false h = h
+
+  heard-usable : usable (heard b bytes) ≡ true
+  unfolding offerOf
+  heard-usable = rw some some
+
+  -- a turn on a board that holds nothing takes a byte at least
+  moves : holds b ≡ false → 0 < length bytes → 0 < offerOf b bytes .taken
+  unfolding offerOf offeredOf
+  moves none l = rw (some, none) (go bytes l)
+    where
+      go : (bytes : List ℕ) → 0 < length bytes → 0 < taken (b .hire .receiver) bytes
+      go [] l = absurd (not-suc-le-zero l)
+      go (x ∷ xs) l = rw none (omega arith)
+
+-- the fetch: a held frame is answered and let go; where none is held nothing is said and nothing changes
+module _ (h : Board) (some : usable h ≡ true) where
+  said-held : holds h ≡ true → (isReply (fetchNumber h 259) ≡ true) × (take 259 (fetchReply h 259) ≡ fetchReply h 259)
+  unfolding fetchNumber fetchReply frameNumber frameReply
+  said-held e = (rw (some, e) (is-reply h (heldIn h) (requestOf (heldIn h))), rw (some, e) (filled-whole h (heldIn h)))
+
+  said-none : holds h ≡ false → (isReply (fetchNumber h 259) ≡ false) × (told (fetchReply h 259) ≡ [])
+  unfolding fetchNumber fetchReply
+  said-none e = (rw (some, e) refl, rw (some, e) (none 259))
+
+  next-usable : usable (fetchBoard h 259) ≡ true
+  unfolding fetchBoard
+  next-usable = rw some (go (holds h))
+    where
+      go : (t : Bool) → usable (cond t (withReceiver (frameBoard h (heldIn h) 259) noBytes) h) ≡ true
+      go true = frame-usable h (heldIn h) 259 ∙ some
+      go false = some
+
+  let-go : holds (fetchBoard h 259) ≡ false
+  unfolding fetchBoard
+  let-go = rw some (go (holds h) refl)
+    where
+      go : (t : Bool) → holds h ≡ t → holds (cond t (withReceiver (frameBoard h (heldIn h) 259) noBytes) h) ≡ false
+      go true e = none-held
+      go false e = e
+
+-- ---- turns as a cutting
+
+abbrev said : Ran → List ℕ
+said r = flatten (map (λ (a : Reply). told (a .1)) (r .replies))
+
+-- the same turns, as offers of what is left of a read, and fetches
+turnList : ℕ → Board → List ℕ → List Turn
+turnList zero b bytes = []
+turnList (suc n) b [] = []
+turnList (suc n) b (x ∷ xs) =
+    offers (length (x ∷ xs)) ∷ fetches 259 ∷ turnList n (turnOf b (x ∷ xs) 259 .board) (drop (turnOf b (x ∷ xs) 259 .taken) (x ∷ xs))
+
+record Same (words : List ℕ) (r q : Ran) : Type 0 where
+  said : said r ≡ words ++ said q
+  board : r .board ≡ q .board
+  left : r .left ≡ q .left
+
+one-turn : (b : Board) (bytes more : List ℕ) (ts : List Turn) → usable b ≡ true
+    → Same (told (bufferOf b bytes 259)) (runs (offers (length bytes) ∷ fetches 259 ∷ ts) b (bytes ++ more)) (runs ts (turnOf b bytes 259 .board) (drop (turnOf b bytes 259 .taken) bytes ++ more))
+unfolding step flatten
+one-turn b bytes more ts some =
+    let whole : take (length bytes) (bytes ++ more) ≡ bytes =
+    (let e : length bytes ≡ length bytes + 0 = omega arith in ap (λ (k : ℕ). take k (bytes ++ more)) e) ∙ take-append-add bytes more 0 ∙ append-nil bytes
+    in
+    let rest : drop (offerOf b bytes .taken) (bytes ++ more) ≡ drop (offerOf b bytes .taken) bytes ++ more = drop-append-le _ bytes more (within b some bytes) in
+    rw (whole, rest) (go (heard b bytes) (heard-usable b some bytes) (drop (offerOf b bytes .taken) bytes ++ more))
+  where
+    go : (h : Board) → usable h ≡ true → (left : List ℕ)
+        → Same (told (fetchReply h 259)) (cond (isReply (fetchNumber h 259)) (replied (fetchNumber h 259, take 259 (fetchReply h 259)) (runs ts (fetchBoard h 259) left)) (runs ts (fetchBoard h 259) left)) (runs ts (fetchBoard h 259) left)
+    go h some left = by-held (holds h) refl
+      where
+        by-held : (t : Bool) → holds h ≡ t
+            → Same (told (fetchReply h 259)) (cond (isReply (fetchNumber h 259)) (replied (fetchNumber h 259, take 259 (fetchReply h 259)) (runs ts (fetchBoard h 259) left)) (runs ts (fetchBoard h 259) left)) (runs ts (fetchBoard h 259) left)
+        by-held true e = let w = said-held h some e in rw (w .0, w .1) (record { said = refl; board = refl; left = refl })
+        by-held false e = let w = said-none h some e in rw (w .0, w .1) (record { said = refl; board = refl; left = refl })
+
+joined : {w v : List ℕ} {r q p : Ran} → Same w r q → Same v q p → Same (w ++ v) r p
+joined {w} {v} {r} {q} {p} f g =
+    record {
+      said = f .said ∙ ap (λ (l : List ℕ). w ++ l) (g .said) ∙ sym (append-assoc w v (said p));
+      board = f .board ∙ g .board;
+      left = f .left ∙ g .left;
+    }
+
+turns : (n : ℕ) (b : Board) (bytes more : List ℕ) (ts : List Turn) → usable b ≡ true
+    → Same (flatten (turnsOf n b bytes .replies)) (runs (turnList n b bytes ++ ts) b (bytes ++ more)) (runs ts (turnsOf n b bytes .board) (turnsOf n b bytes .left ++ more))
+unfolding turnsOf turnList flatten
+turns zero b bytes more ts some = record { said = refl; board = refl; left = refl }
+turns (suc n) b [] more ts some = record { said = refl; board = refl; left = refl }
+turns (suc n) b (x ∷ xs) more ts some =
+    let t = turnOf b (x ∷ xs) 259 in
+    let left = drop (t .taken) (x ∷ xs) in
+    joined (one-turn b (x ∷ xs) more (turnList n (t .board) left ++ ts) some)
+    (turns n (t .board) left more ts (next-usable (heard b (x ∷ xs)) (heard-usable b some (x ∷ xs))))
+
+-- as many turns as there are bytes take them all
+record Through (s : Served) : Type 0 where
+  left : s .left ≡ []
+  free : holds (s .board) ≡ false
+  usable : usable (s .board) ≡ true
+
+through : (n : ℕ) (b : Board) (bytes : List ℕ) → usable b ≡ true → holds b ≡ false → length bytes ≤ n → Through (turnsOf n b bytes)
+unfolding turnsOf
+through zero b [] some free l = record { left = refl; free = free; usable = some }
+through zero b (x ∷ xs) some free l = absurd (not-suc-le-zero l)
+through (suc n) b [] some free l = record { left = refl; free = free; usable = some }
+through (suc n) b (x ∷ xs) some free l =
+    let h = heard b (x ∷ xs) in
+    let ok = heard-usable b some (x ∷ xs) in
+    let m = moves b some (x ∷ xs) free (omega arith) in
+    let i = through n (fetchBoard h 259) (drop (offerOf b (x ∷ xs) .taken) (x ∷ xs)) (next-usable h ok) (let-go h ok) (simp length-drop (omega (arith, m, l))) in
+    record { left = i .left; free = i .free; usable = i .usable }
+
+allTurns : Board → List (List ℕ) → List Turn
+allTurns b [] = []
+allTurns b (bytes ∷ more) = turnList (suc (length bytes)) b bytes ++ allTurns (servedOf b bytes .board) more
+
+abbrev ended : Board → Ran
+ended b = record { replies = []; board = b; left = [] }
+
+all : (reads : List (List ℕ)) (b : Board) → usable b ≡ true → holds b ≡ false
+    → Same (written b reads) (runs (allTurns b reads) b (flatten reads)) (ended (boardAfter b reads)) × (holds (boardAfter b reads) ≡ false)
+unfolding allTurns flatten servedOf
+all [] b some free = (record { said = refl; board = refl; left = refl }, free)
+all (bytes ∷ more) b some free =
+    let t = through (suc (length bytes)) b bytes some free (omega arith) in
+    let i = all more (turnsOf (suc (length bytes)) b bytes .board) (t .usable) (t .free) in
+    (joined (rw (t .left) at (turns (suc (length bytes)) b bytes (flatten more) (allTurns (turnsOf (suc (length bytes)) b bytes .board) more) some)) (i .0), i .1)
+
+-- ---- the theorem
+
+-- the bytes of each reply, without the zeros after it
+exactly : (fs : List (List ℕ)) (b : Board) → usable b ≡ true → map (λ (a : Reply). told (a .1)) (repliesTo answer b fs) ≡ repliesTo replyOf b fs
+unfolding frameReply
+exactly [] b some = refl
+exactly (f ∷ fs) b some =
+    ap₂ (λ (x : List ℕ) (xs : List (List ℕ)). x ∷ xs) (rw some (exact b f 259 (omega arith))) (exactly fs (frameBoard b f 259) (frame-usable b f 259 ∙ some))
+
+same-board : (fs : List (List ℕ)) (b : Board) → after answer b fs ≡ after replyOf b fs
+same-board [] b = refl
+same-board (f ∷ fs) b = same-board fs (frameBoard b f 259)
+
+pub serves : (b : Board) (reads : List (List ℕ)) → usable b ≡ true → b .hire .receiver ≡ noBytes → Serves b reads
+unfolding flatten
+serves b reads some none =
+    let free : holds b ≡ false = ap isHeld none ∙ none-held in
+    let a = all reads b some free in
+    let s = a .0 in
+    let whole = any-cutting (allTurns b reads) b (flatten reads) some none (s .left, ap holds (s .board) ∙ a .1) in
+    let frames = cut 0 (flatten reads) .frames in
+    record {
+      replies =
+          sym (append-nil (written b reads))
+          ∙ sym (s .said)
+          ∙ ap (λ (l : List Reply). flatten (map (λ (a : Reply). told (a .1)) l)) (whole .replies)
+          ∙ ap flatten (exactly frames b some);
+      board =
+          subst (λ (x : Board). x ≡ withReceiver (after replyOf b frames) (x .hire .receiver)) (s .board)
+          (whole .board ∙ ap (λ (x : Board). withReceiver x (runs (allTurns b reads) b (flatten reads) .board .hire .receiver)) (same-board frames b));
+      held = sym (ap heldIn (s .board)) ∙ whole .held;
+    }

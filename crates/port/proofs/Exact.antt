@@ -1,0 +1,203 @@
+-- The bytes of a reply buffer that are told to be the reply are the reply: each kind has the length that its second and third byte say.
+-- Assumes nothing.
+use mathlib.Core.Path.{_≡_, refl, sym, ap, _∙_}
+use mathlib.Core.Bool.{Bool, true, false, _&&_, cond}
+use mathlib.Core.List.{List, [], _∷_, _++_, append-nil}
+use Prim.Native.Nat.{ℕ, zero, suc, _+_, _-_, _*_, _≤_, min}
+use native.Mathlib.Omega.{arith}
+use borrow.Author.Tests.{le-ltb, ltb-false, eqb-true}
+use lib.Dec.{eqb, leb, ltb}
+use lib.ListN.{length, take, getD, replicate, length-append, length-replicate}
+use lib.Seq.{take-append-add}
+use Rattle.crc.specs.Crc.{crcOf}
+use Rattle.events.specs.Events.{newCount, keptCount, keptOf, newOf, eventLongs}
+use Rattle.settings.specs.Settings as settings
+use Rattle.requests.specs.declared.Query.{Query}
+use Rattle.requests.specs.declared.Query.the-variants.{Registers, Live, NewEvents, AllEvents, Temperatures, Cells, SettingsOf}
+use Rattle.requests.specs.declared.Command.{Command}
+use Rattle.requests.specs.declared.Command.the-variants.{Clear, Block, Write, Ask, AskSettings, Unknown}
+use Rattle.requests.specs.declared.Expected.{Expected}
+use Rattle.requests.specs.declared.Refusal.the-variants.{Foreign, Damaged, Against}
+use Rattle.requests.specs.declared.Request.{Request}
+use Rattle.requests.specs.declared.Request.the-variants as request
+use Rattle.requests.specs.Requests.{be16At, le16At, expectedOf, lengthBy, between, inOneRange, against, clearOf, blockOf, writeOf, settingsOf, fieldsOf, askedOf, requestOf, commandOf}
+use Rattle.wire.specs.Wire.{be16, le16, le32, words, sealed, padded, nackOf, ackOf}
+use Rattle.wire.proofs.Writing.{sealed-length, words-length}
+use Rattle.board.specs.declared.Board.{Board}
+use Rattle.board.specs.Frames.{valueAt, bodyBy, bodyOf, payloadOf, tooLong, writeNumber, refusalReply, writeReply, queryReply, requestReply}
+use Rattle.board.proofs.Replies.{reply-length}
+use Rattle.port.specs.Port as port
+use Rattle.port.specs.Port.{lengthIn}
+
+-- ---- 0x14 to 0x19 send as many registers as their command says
+
+fits : Query → ℕ → Bool
+fits (Registers at n) pl = true
+fits (Live command at n) pl = eqb (port.lengthBy command pl) (4 + 2 * n)
+fits NewEvents pl = true
+fits AllEvents pl = true
+fits Temperatures pl = true
+fits Cells pl = true
+fits (SettingsOf kind n) pl = true
+
+asks : Command → ℕ → Bool
+asks Clear pl = true
+asks Block pl = true
+asks Write pl = true
+asks (Ask q) pl = fits q pl
+asks AskSettings pl = true
+asks Unknown pl = true
+
+reads : Request → ℕ → Bool
+reads (request.Refused refusal) pl = true
+reads request.ClearEvents pl = true
+reads request.ClearStatistics pl = true
+reads (request.Write from n) pl = true
+reads (request.Read q) pl = fits q pl
+
+record Asks (pl : ℕ) (e : Expected) : Type 0 where
+  asks : asks (e .command) pl ≡ true
+
+record Reads (pl : ℕ) (q : Request) : Type 0 where
+  reads : reads q pl ≡ true
+
+arm : (t : Bool) {x y : Expected} {pl : ℕ} → Asks pl x → Asks pl y → Asks pl (cond t x y)
+arm true p q = p
+arm false p q = q
+
+expected : (c n pl : ℕ) → Asks pl (expectedOf c n)
+unfolding expectedOf asks fits port.lengthBy
+expected c n pl =
+    arm (eqb c 0x02) (record { asks = refl })
+    (arm (eqb c 0x03) (record { asks = refl })
+    (arm (eqb c 0x10) (record { asks = refl })
+    (arm (eqb c 0x11) (record { asks = refl })
+    (arm (eqb c 0x12) (record { asks = refl })
+    (arm (eqb c 0x14) (record { asks = refl })
+    (arm (eqb c 0x15) (record { asks = refl })
+    (arm (eqb c 0x16) (record { asks = refl })
+    (arm (eqb c 0x17) (record { asks = refl })
+    (arm (eqb c 0x18) (record { asks = refl })
+    (arm (eqb c 0x19) (record { asks = refl })
+    (arm (eqb c 0x1B) (record { asks = refl })
+    (arm (eqb c 0x1C) (record { asks = refl })
+    (arm (eqb c 0x1D) (record { asks = refl })
+    (record { asks = refl }))))))))))))))
+
+either : (t : Bool) {x y : Request} {pl : ℕ} → Reads pl x → Reads pl y → Reads pl (cond t x y)
+either true p q = p
+either false p q = q
+
+fields : (c : ℕ) (s : List ℕ) (pl : ℕ) (k : Command) → asks k pl ≡ true → Reads pl (fieldsOf k c s)
+unfolding reads fits asks fieldsOf clearOf blockOf writeOf settingsOf
+fields c s pl Clear e = either (eqb (getD s 2 0) 1) (record { reads = refl }) (either (eqb (getD s 2 0) 2) (record { reads = refl }) (record { reads = refl }))
+fields c s pl Block e = either (eqb (getD s 4 0) 0 && between 1 127 (getD s 5 0) && inOneRange (be16At s 2) (getD s 5 0)) (record { reads = refl }) (record { reads = refl })
+fields c s pl Write e =
+    either (eqb (getD s 4 0) 0 && between 1 100 (getD s 5 0) && eqb (getD s 6 0) (2 * getD s 5 0) && leb 300 (be16At s 2) && leb (be16At s 2 + getD s 5 0) 400) (record { reads = refl }) (record { reads = refl })
+fields c s pl (Ask q) e = record { reads = e }
+fields c s pl AskSettings e = either (between 1 4 (getD s 2 0) && eqb (getD s 3 0) 0 && between 1 100 (getD s 4 0)) (record { reads = refl }) (record { reads = refl })
+fields c s pl Unknown e = record { reads = refl }
+
+asked : (s : List ℕ) (pl : ℕ) → Reads pl (requestOf s)
+unfolding reads requestOf askedOf
+asked s pl =
+    let c = getD s 1 0 in
+    either (ltb (length s) 4) (record { reads = refl })
+    (either (eqb (getD s 0 0) 0xAA)
+    (either (eqb (crcOf (take (length s - 2) s)) (le16At s (length s - 2)))
+    (either (eqb (length s) (lengthBy c s)) (fields c s pl (expectedOf c (getD s 6 0) .command) (expected c (getD s 6 0) pl .asks)) (record { reads = refl }))
+    (record { reads = refl }))
+    (record { reads = refl }))
+
+-- ---- a reply in its buffer
+
+abbrev pub Exact : ℕ → List ℕ → Type 0
+Exact room reply = take (lengthIn (padded room reply)) (padded room reply) ≡ reply
+
+pub padded-length : (room : ℕ) (reply : List ℕ) → length reply ≤ room → length (padded room reply) ≡ room
+unfolding padded
+padded-length room reply h = length-append reply (replicate (room - length reply) 0) ∙ ap (λ (n : ℕ). length reply + n) (length-replicate (room - length reply) 0) ∙ omega arith
+
+zero-first : (n : ℕ) → eqb (getD (replicate n 0) 0 0) 0xAA ≡ false
+zero-first zero = refl
+zero-first (suc n) = refl
+
+pub none : (room : ℕ) → Exact room []
+unfolding lengthIn padded
+none room = rw (zero-first (room - 0)) (go (ltb (length (replicate {A = ℕ} (room - 0) 0)) 259))
+  where
+    go : (t : Bool) → take {A = ℕ} (cond t 0 0) (replicate (room - 0) 0) ≡ []
+    go true = refl
+    go false = refl
+
+-- as many bytes as the reply has, from the front
+front : (room : ℕ) (xs : List ℕ) → take (length xs + 0) (padded room xs) ≡ xs
+unfolding padded
+front room xs = take-append-add xs (replicate (room - length xs) 0) 0 ∙ append-nil xs
+
+told : (room c : ℕ) (ys : List ℕ) → 259 ≤ room → 2 + length ys ≤ 259 → port.lengthBy c (getD (padded room (0xAA ∷ c ∷ ys)) 2 0) ≡ 2 + length ys → Exact room (0xAA ∷ c ∷ ys)
+unfolding lengthIn padded
+told room c ys large small e =
+    let xs : List ℕ = 0xAA ∷ c ∷ ys in
+    let all : length (padded room xs) ≡ room = padded-length room xs (omega arith) in
+    let least : min (2 + length ys) room ≡ length xs + 0 = omega arith in
+    rw (all, le-ltb room 259 large, e, least) (front room xs)
+
+-- ---- each reply
+
+module _ (room : ℕ) (large : 259 ≤ room) where
+  -- a head of two bytes, data and CRC
+  headed : (c : ℕ) (ys : List ℕ) → length (sealed (0xAA ∷ c ∷ ys)) ≤ 259 → port.lengthBy c (getD (padded room (sealed (0xAA ∷ c ∷ ys))) 2 0) ≡ 4 + length ys → Exact room (sealed (0xAA ∷ c ∷ ys))
+  unfolding sealed
+  headed c ys h e =
+      let n = length-append ys (le16 (crcOf (0xAA ∷ c ∷ ys))) in
+      told room c (ys ++ le16 (crcOf (0xAA ∷ c ∷ ys))) large (omega (arith, n, h)) (e ∙ omega (arith, n))
+
+  -- the same with the number of the data's bytes before them
+  counted : (c n : ℕ) (ys : List ℕ) → ((pl : ℕ) → port.lengthBy c pl ≡ 5 + pl) → length ys ≡ n → length (sealed (0xAA ∷ c ∷ n ∷ ys)) ≤ 259 → Exact room (sealed (0xAA ∷ c ∷ n ∷ ys))
+  unfolding sealed padded
+  counted c n ys says e h = headed c (n ∷ ys) h (says n ∙ omega (arith, e))
+
+  module _ (b : Board) where
+    body : (q : Query) → ((pl : ℕ) → fits q pl ≡ true) → length (sealed (bodyOf b q)) ≤ 259 → Exact room (sealed (bodyOf b q))
+    unfolding bodyBy fits port.lengthBy
+    body (Registers at n) f h = counted 0x03 (2 * n) _ (λ pl. refl) (words-length 2 be16 (valueAt b) at n (λ w. refl)) h
+    body (Live command at n) f h =
+        headed command _ h (eqb-true _ (4 + 2 * n) (f _) ∙ ap (λ (k : ℕ). 4 + k) (sym (words-length 2 le16 (valueAt b) at n (λ w. refl))))
+    body NewEvents f h =
+        let n = newCount (b .hire .events) in
+        counted 0x11 (4 + 4 * n) _ (λ pl. refl) (words-length 4 le32 (eventLongs (b .pack .clock .seconds) (newOf (b .hire .events))) 0 (1 + n) (λ w. refl) ∙ omega arith) h
+    body AllEvents f h =
+        let n = keptCount (b .hire .events) in
+        counted 0x12 (4 + 4 * n) _ (λ pl. refl) (words-length 4 le32 (eventLongs (b .pack .clock .seconds) (keptOf (b .hire .events))) 0 (1 + n) (λ w. refl) ∙ omega arith) h
+    body Temperatures f h = counted 0x1B 6 _ (λ pl. refl) refl h
+    body Cells f h = counted 0x1C (2 * (b .pack .cells)) _ (λ pl. refl) (words-length 2 le16 (valueAt b) 0 (b .pack .cells) (λ w. refl)) h
+    body (SettingsOf kind n) f h =
+        counted 0x1D (2 * n) _ (λ pl. refl) (words-length 2 le16 (settings.registerOf (settings.ofKind (b .pack .settings) kind)) 300 n (λ w. refl)) h
+
+    nack : (command error : ℕ) → length (sealed (nackOf command error)) ≤ 259 → Exact room (sealed (nackOf command error))
+    unfolding port.lengthBy
+    nack command error h = headed 0x00 (command ∷ error ∷ []) h refl
+
+    every : (s : List ℕ) (q : Request) → ((pl : ℕ) → reads q pl ≡ true) → length (requestReply b s q) ≤ 259 → Exact room (requestReply b s q)
+    unfolding requestReply refusalReply writeReply queryReply reads port.lengthBy
+    every s (request.Refused Foreign) f h = none room
+    every s (request.Refused (Damaged command)) f h = nack command 0x01 h
+    every s (request.Refused (Against command)) f h = nack command 0x00 h
+    every s request.ClearEvents f h = headed 0x01 (0x02 ∷ []) h refl
+    every s request.ClearStatistics f h = headed 0x01 (0x02 ∷ []) h refl
+    every s (request.Write from n) f h = go (eqb (writeNumber (b .pack .settings) s from n) 0) h
+      where
+        go : (t : Bool) → length (sealed (cond t (0xAA ∷ 0x10 ∷ be16 (300 + from) ++ be16 n) (nackOf 0x10 0x00))) ≤ 259
+            → Exact room (sealed (cond t (0xAA ∷ 0x10 ∷ be16 (300 + from) ++ be16 n) (nackOf 0x10 0x00)))
+        go true h = headed 0x10 (be16 (300 + from) ++ be16 n) h refl
+        go false h = nack 0x10 0x00 h
+    every s (request.Read q) f h = go (tooLong b q) h
+      where
+        go : (t : Bool) → length (sealed (cond t (nackOf (commandOf q) 0x00) (bodyOf b q))) ≤ 259 → Exact room (sealed (cond t (nackOf (commandOf q) 0x00) (bodyOf b q)))
+        go true h = nack (commandOf q) 0x00 h
+        go false h = body q f h
+
+-- a frame's whole reply, and nothing after it
+pub exact : (b : Board) (s : List ℕ) (room : ℕ) → 259 ≤ room → Exact room (requestReply b s (requestOf s))
+exact b s room large = every room large b s (requestOf s) (λ pl. asked s pl .reads) (reply-length b s (requestOf s))

@@ -1,0 +1,43 @@
+-- An offer, then a fetch, then the length of what it left. Assumes nothing.
+use mathlib.Core.List.{List}
+use mathlib.Core.Path.{_≡_}
+use Prim.Native.Nat.{ℕ}
+use Rattle.board.specs.declared.Answer.{Answer}
+use Rattle.board.specs.declared.Board.{Board}
+use Rattle.board.specs.declared.Heard.{Heard}
+use Rattle.board.specs.Line.{offerOf}
+use Rattle.board.specs.Promises.{Fetches}
+use Rattle.port.specs.Port.{lengthIn, Answers}
+use borrow.Author.Needs.{needs}
+use Rattle.port.proofs.answer.Statement.{statement}
+use Rattle.port.proofs.answer.Tie as tie
+
+answered : {b : Board} {bytes before after : List ℕ} {h : Heard} {a : Answer} {n : ℕ} → h ≡ offerOf b bytes → Fetches (h .board) before a after → n ≡ lengthIn after
+    → Answers b bytes before (record { taken = h .taken; length = n; board = a .board }) after
+answered e f k =
+    record {
+      turn = rw (k, f .board, f .reply, e);
+      buffer = rw (← e) (f .reply);
+    }
+
+offer-requires : tie.Need-offer-requires
+offer-requires c κs = search needs
+
+fetch-requires : tie.Need-fetch-requires
+fetch-requires c κs = search needs
+
+length-in-requires : tie.Need-length-in-requires
+length-in-requires c κs = search needs
+
+same-length : tie.Need-same-length
+same-length c = search needs
+
+returns : tie.Need-returns
+returns c =
+    let fetched = c .before .before .before .before .before in
+    let offered = fetched .before .before in
+    answered (offered .offer .ensures) (fetched .fetch .ensures) (c .length-in .ensures .0)
+
+pub answer-spec : {M : Type 1} → statement M
+answer-spec =
+    tie.close (tie.spec offer-requires fetch-requires length-in-requires same-length returns)

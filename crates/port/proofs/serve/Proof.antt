@@ -1,0 +1,92 @@
+-- A turn takes what the rest of the bytes begin with, until none is left. Assumes nothing.
+use Prim.Native.Nat.{_-_, suc}
+use lib.ListN.{length}
+use mathlib.Core.Path.{_≡_, refl}
+use Rattle.port.proofs.Turns.{Serving, begun, next, out-of-turns, none-left}
+use borrow.Author.Needs.{needs}
+use Rattle.port.proofs.serve.Statement.{statement}
+use Rattle.port.proofs.serve.Tie as tie
+
+abbrev Inv-loop : tie.InvT-loop
+Inv-loop bytes board₀ rest₀ reply₀ turns₀ board rest reply turns = Serving board₀ bytes board rest turns × (259 ≡ length reply)
+
+abbrev μ-loop : tie.MeasureT-loop
+μ-loop bytes board₀ rest₀ reply₀ turns₀ board rest reply turns = suc (length bytes) - turns
+
+loop-holds : tie.Need-loop-holds Inv-loop μ-loop
+loop-holds c = (begun, refl)
+
+slice-aggregate-answer : tie.Need-slice-aggregate-answer Inv-loop μ-loop
+slice-aggregate-answer c = search needs
+
+answer-requires : tie.Need-answer-requires Inv-loop μ-loop
+answer-requires c κs = search needs
+
+least-requires : tie.Need-least-requires Inv-loop μ-loop
+least-requires c κs = search needs
+
+sub-write-all : tie.Need-sub-write-all Inv-loop μ-loop
+sub-write-all c = search needs
+
+part-write-all-start : tie.Need-part-write-all-start Inv-loop μ-loop
+part-write-all-start c = search needs
+
+part-write-all-end : tie.Need-part-write-all-end Inv-loop μ-loop
+part-write-all-end c = search needs
+
+write-all-requires : tie.Need-write-all-requires Inv-loop μ-loop
+write-all-requires c κs = search needs
+
+least-requires-2 : tie.Need-least-requires-2 Inv-loop μ-loop
+least-requires-2 c κs = search needs
+
+sub-rest : tie.Need-sub-rest Inv-loop μ-loop
+sub-rest c = search needs
+
+part-rest-start : tie.Need-part-rest-start Inv-loop μ-loop
+part-rest-start c = search needs
+
+part-rest-end : tie.Need-part-rest-end Inv-loop μ-loop
+part-rest-end c = search needs
+
+add-turns : tie.Need-add-turns Inv-loop μ-loop
+add-turns c = search needs
+
+loop-less : tie.Need-loop-less Inv-loop μ-loop
+loop-less c = search needs
+
+loop-again : tie.Need-loop-again Inv-loop μ-loop
+loop-again c =
+    let answer = c .before .before .before .before .before .before .before .before in
+    let loop = answer .before .before .before .before in
+    (next (loop .loop .inv .0) (answer .answer .ensures) (loop .loop .inv .1) (c .before .least2 .ensures .0) (search needs) (search needs), search needs)
+
+returns : tie.Need-returns Inv-loop μ-loop
+returns c = none-left (c .before .before .loop .inv .0) (search needs)
+
+returns-2 : tie.Need-returns-2 Inv-loop μ-loop
+returns-2 c = out-of-turns (c .before .loop .inv .0) (search needs)
+
+pub serve-spec : {M : Type 1} → statement M
+serve-spec =
+    tie.close
+    (tie.spec
+    Inv-loop
+    μ-loop
+    loop-holds
+    slice-aggregate-answer
+    answer-requires
+    least-requires
+    sub-write-all
+    part-write-all-start
+    part-write-all-end
+    write-all-requires
+    least-requires-2
+    sub-rest
+    part-rest-start
+    part-rest-end
+    add-turns
+    loop-less
+    loop-again
+    returns
+    returns-2)

@@ -1,0 +1,35 @@
+/* `line` without a recording: "a board of 8 cells and 2000 pulses per km, no tick yet, at one end of a raw serial line: bytes on
+   standard input, replies on standard output, and nothing else there." */
+#include "console.h"
+
+#include <stdio.h>
+
+/* A reply has its PL, but: "NACK: AA 00 CMD ERROR", "ACK: AA 01 CMD", 0x10's address and RL, and 0x14 to 0x19, which
+   have none and send two registers or one. */
+static size_t length_of_reply(const uint8_t *reply)
+{
+    switch (reply[1]) {
+    case 0x01:
+        return 5;
+    case 0x00: case 0x16: case 0x17: case 0x18:
+        return 6;
+    case 0x10: case 0x14: case 0x15: case 0x19:
+        return 8;
+    default:
+        return 5 + (size_t)reply[2];
+    }
+}
+
+void serve_line(void)
+{
+    uint8_t bytes[4096], reply[LEAST_ROOM];
+    size_t length, taken;
+    struct board board;
+    board_start(&board, 8, 2000);
+    while ((length = fread(bytes, 1, sizeof bytes, stdin)) > 0)
+        for (size_t at = 0; at < length; at += taken) {
+            board_offer(&board, bytes + at, length - at, &taken);
+            if (board_fetch(&board, reply, sizeof reply) != NO_FRAME_HELD)
+                fwrite(reply, 1, length_of_reply(reply), stdout);
+        }
+}
