@@ -2,11 +2,11 @@
 -- reads lie in the three ranges, and its length is 4 to 264. By the tests in the definition's order.
 -- Assumes nothing.
 use mathlib.Core.Path.{_≡_, refl, sym, ap, _∙_}
-use mathlib.Core.Bool.{Bool, true, false, _&&_, cond, and-eq-true-iff}
+use mathlib.Core.Bool.{Bool, true, false, _&&_, _||_, cond, and-eq-true-iff, false≢true}
 use mathlib.Core.List.{List, []}
 use Prim.Native.Nat.{ℕ, zero, suc, _+_, _-_, _*_, _/_, _≤_, _<_}
 use native.Mathlib.Omega.{arith}
-use borrow.Author.Tests.{eqb-true, eqb-false}
+use borrow.Author.Tests.{eqb-true, eqb-false, leb-true, le-leb, lt-leb}
 use lib.Dec.{eqb, leb, ltb}
 use lib.ListN.{length, take, getD}
 use Rattle.crc.specs.Crc.{crcOf}
@@ -53,7 +53,7 @@ registerIn s Temperatures i = i
 registerIn s Cells i = i
 registerIn s (SettingsOf kind n) i = i
 
--- each lies in one of the ranges
+-- each lies in one of the ranges; those that 0x1D shows too
 unfoldable pub inRange : List ℕ → Query → Bool
 inRange s (Registers command at n) = inOneRange at n
 inRange s (Listed n) = allShown s n
@@ -62,7 +62,7 @@ inRange s NewEvents = true
 inRange s AllEvents = true
 inRange s Temperatures = true
 inRange s Cells = inOneRange 0 16
-inRange s (SettingsOf kind n) = true
+inRange s (SettingsOf kind n) = inOneRange 300 n
 
 unfoldable pub readsInRange : List ℕ → Request → Bool
 readsInRange s (request.Refused refusal) = true
@@ -83,6 +83,22 @@ each-shown s (suc n) i h l = go (eqb i n) refl (λ k. each-shown s n i (both .0)
     go : (t : Bool) → eqb i n ≡ t → (i < n → inOneRange (addressAt s i) 1 ≡ true) → inOneRange (addressAt s i) 1 ≡ true
     go true e f = ap (λ (k : ℕ). inOneRange (addressAt s k) 1) (eqb-true i n e) ∙ both .1
     go false e f = f (omega (arith, eqb-false))
+
+settings-shown : (n : ℕ) → n ≤ 100 → inOneRange 300 n ≡ true
+settings-shown n h = rw (lt-leb (300 + n) 56 (omega arith), le-leb (300 + n) 400 (omega arith)) (or-true (leb (300 + n) 118))
+  where
+    or-true : (t : Bool) → (t || true) ≡ true
+    or-true true = refl
+    or-true false = refl
+
+pub settings-few : (n : ℕ) → inOneRange 300 n ≡ true → n ≤ 100
+settings-few n = go (leb (300 + n) 56) (leb (300 + n) 118) (leb (300 + n) 400) refl refl refl
+  where
+    go : (a b c : Bool) → leb (300 + n) 56 ≡ a → leb (300 + n) 118 ≡ b → leb (300 + n) 400 ≡ c → (a || b || c) ≡ true → n ≤ 100
+    go true b c e f g h = omega (arith, leb-true)
+    go false true c e f g h = omega (arith, leb-true)
+    go false false true e f g h = omega (arith, leb-true)
+    go false false false e f g h = absurd (false≢true h)
 
 pub record Sound (c : ℕ) (s : List ℕ) (q : Request) : Type 0 where
   pub named : commandIn c q ≡ c
@@ -192,7 +208,11 @@ module _ (c : ℕ) (s : List ℕ) where
       both (counted f s (countOf f s) && allSettings (pairsOf f s (countOf f s))) _ _ (λ h. record { named = e; in-range = refl }) (refused (writeCommand f) e)
   fields (Ask q) e r = record { named = e; in-range = r }
   fields AskSettings e r =
-      both (between 1 4 (getD s 2 0) && eqb (getD s 3 0) 0 && between 1 100 (getD s 4 0)) _ _ (λ h. record { named = e; in-range = refl }) (refused 0x1D e)
+      both (between 1 4 (getD s 2 0) && eqb (getD s 3 0) 0 && between 1 100 (getD s 4 0)) _ _
+      (λ h.
+        let few = and-eq-true-iff (leb 1 (getD s 4 0)) (leb (getD s 4 0) 100) .0 (and-eq-true-iff (between 1 4 (getD s 2 0) && eqb (getD s 3 0) 0) (between 1 100 (getD s 4 0)) .0 h .1) .1 in
+        record { named = e; in-range = settings-shown (getD s 4 0) (leb-true (getD s 4 0) 100 few) })
+      (refused 0x1D e)
   fields Unknown e r = refused c refl
 
   asked : Sound c s (askedOf c s)

@@ -204,6 +204,13 @@ pub fn address_at(bytes: &[u8], i: u16) -> u16
     low_first_at(bytes, 3 + 2 * (i as usize))
 }
 
+// The address of 0x10, which its reply repeats.
+pub fn write_address(bytes: &[u8]) -> u16
+    ensures { λ r. ⌜ r ≡ be16At (now (bytes .entry)) 2 ⌝ }
+{
+    high_first_at(bytes, 2)
+}
+
 // A write to settings that stand: judged whole, and what then stands.
 pub fn written(settings: Settings, bytes: &[u8], form: Form, count: u8) -> Written
     ensures { λ r. ⌜ r ≡ writtenTo settings (pairsOf form (now (bytes .entry)) count) ⌝ }
