@@ -25,7 +25,7 @@ use Rattle.board.specs.Frames.{valueAt, bodyBy, bodyOf, payloadOf, tooLo
 use Rattle.board.specs.Numbers.{replyBytes}
 use Rattle.board.specs.Replies.{countOf, listedWord, wordOf, replyOf}
 use Rattle.pairs.specs.Pairs.{halfAt}
-use Rattle.wire.proofs.Writing.{join-at, reply, sealed-length, words-length, length-words}
+use Rattle.wire.proofs.Writing.{join-at, reply, sealed-length, words-length, two-bytes, length-words}
 
 -- ---- words in a row
 
@@ -122,13 +122,9 @@ short b q {n} e h = rw (payload b q, ← e) (le-ltb 254 (2 * n) (omega arith))
 
 -- ---- a reply has at most 259 bytes
 
-word-length : (high : Bool) (w : ℕ) → length (word16 high w) ≡ 2
-word-length true w = refl
-word-length false w = refl
-
 body-length : (b : Board) (s : List ℕ) (q : Query) → length (bodyOf b s q) ≡ cond (hasLength q) 3 2 + payloadOf b q
 unfolding bodyBy payloadOf hasLength
-body-length b s (Registers command at n) = omega (arith, words-length 2 (word16 (eqb command 0x03)) (valueAt b) at n (word-length (eqb command 0x03)))
+body-length b s (Registers command at n) = omega (arith, words-length 2 (word16 (eqb command 0x03)) (valueAt b) at n (two-bytes (eqb command 0x03)))
 body-length b s (Listed n) = omega (arith, words-length 4 (λ at. le16 at ++ le16 (valueAt b at)) (addressAt s) 0 n (λ w. refl))
 body-length b s (Live command at n) = omega (arith, words-length 2 le16 (valueAt b) at n (λ w. refl))
 body-length b s NewEvents =

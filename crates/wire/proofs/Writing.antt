@@ -202,7 +202,7 @@ words-length k bytes f at (suc n) e =
     let m = mul-suc k n in
     simp length-append (omega arith)
 
-two-bytes : (highFirst : Bool) (w : ℕ) → length (word16 highFirst w) ≡ 2
+pub two-bytes : (highFirst : Bool) (w : ℕ) → length (word16 highFirst w) ≡ 2
 two-bytes true w = refl
 two-bytes false w = refl
 

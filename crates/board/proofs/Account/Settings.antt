@@ -21,7 +21,7 @@ use Rattle.board.specs.Account.{Deed, took, wrote, cleared, forgot, sent
 use Rattle.board.proofs.Account.Deeds.{WhereAsked, any-asked, WhereDone, any-call}
 
 -- what pairs give a register, after older ones
-after-older : {R : Type 0} (factory : R) (register : ℕ) (value : ℕ → R) (ps older : List Pair) → lastOf factory register value (ps ++ older) ≡ lastOf (lastOf factory register value older) register value ps
+pub after-older : {R : Type 0} (factory : R) (register : ℕ) (value : ℕ → R) (ps older : List Pair) → lastOf factory register value (ps ++ older) ≡ lastOf (lastOf factory register value older) register value ps
 after-older factory register value [] older = refl
 after-older factory register value (p ∷ ps) older = go (names register p) (after-older factory register value ps older)
   where
