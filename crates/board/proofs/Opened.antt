@@ -21,7 +21,7 @@ use Rattle.hire.specs.Registers.{liveRegister}
 use Rattle.board.specs.Registers.{shownAt}
 use Rattle.board.specs.Handover.{handedOver, handoverOf}
 use Rattle.wire.specs.Wire.{words, sealed, padded}
-use Rattle.requests.specs.Requests.{expectedOf, lengthOf, clearOf, blockOf, addressAt, allShown, listOf, pairAt, pairsOf, countOf, counted as wellCounted, allSettings, writeCommand, writeOf, kindOf, settingsOf, fieldsOf, askedOf, requestOf, refusalNumber, commandOf, hasLength, draftedOf, marks}
+use Rattle.requests.specs.Requests.{expectedOf, lengthOf, clearOf, blockOf, addressAt, allShown, listOf, pairAt, pairsOf, countOf, wellCounted, allSettings, writeCommand, writeOf, kindOf, settingsOf, fieldsOf, askedOf, requestOf, refusalNumber, commandOf, hasLength, draftedOf, marks}
 use Rattle.board.specs.Frames.{valueAt, bodyBy, bodyOf, payloadOf, requestNumber, changedBy, requestBoard, refusalReply, takenReply, writeReply, queryReply, requestReply, frameNumber, frameBoard, frameReply}
 use Rattle.receiver.specs.Receiver.{isHeld, withByte, offeredOf}
 use Rattle.board.specs.Line.{offerOf, fetchNumber, fetchBoard, fetchReply}

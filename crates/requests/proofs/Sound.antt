@@ -20,7 +20,7 @@ use Rattle.requests.specs.declared.Expected.{Expected}
 use Rattle.requests.specs.declared.Refusal.the-variants.{Foreign, Damaged, Against}
 use Rattle.requests.specs.declared.Request.{Request}
 use Rattle.requests.specs.declared.Request.the-variants as request
-use Rattle.requests.specs.Requests.{be16At, le16At, expect, expectedOf, expectedBy, inOneRange, between, against, clearOf, blockOf, addressAt, allShown, listOf, pairsOf, countOf, counted, allSettings, writeCommand, writeOf, settingsOf, fieldsOf, askedOf, requestOf, commandOf}
+use Rattle.requests.specs.Requests.{be16At, le16At, expect, expectedOf, expectedBy, inOneRange, between, against, clearOf, blockOf, addressAt, allShown, listOf, pairsOf, countOf, wellCounted, allSettings, writeCommand, writeOf, settingsOf, fieldsOf, askedOf, requestOf, commandOf}
 
 -- the command that a request is refused or answered with; c where there is none
 unfoldable pub commandIn : ℕ → Request → ℕ
@@ -205,13 +205,13 @@ module _ (c : ℕ) (s : List ℕ) where
       (λ h. record { named = e; in-range = and-eq-true-iff (eqb pl (2 * (pl / 2)) && between 1 63 (pl / 2)) (allShown s (pl / 2)) .0 h .1 })
       (refused 0x09 e)
   fields (Write f) e r =
-      both (counted f s (countOf f s) && allSettings (pairsOf f s (countOf f s))) _ _ (λ h. record { named = e; in-range = refl }) (refused (writeCommand f) e)
+      both (wellCounted f s (countOf f s) && allSettings (pairsOf f s (countOf f s))) _ _ (λ h. record { named = e; in-range = refl }) (refused (writeCommand f) e)
   fields (Ask q) e r = record { named = e; in-range = r }
   fields AskSettings e r =
       both (between 1 4 (getD s 2 0) && eqb (getD s 3 0) 0 && between 1 100 (getD s 4 0)) _ _
       (λ h.
-        let few = and-eq-true-iff (leb 1 (getD s 4 0)) (leb (getD s 4 0) 100) .0 (and-eq-true-iff (between 1 4 (getD s 2 0) && eqb (getD s 3 0) 0) (between 1 100 (getD s 4 0)) .0 h .1) .1 in
-        record { named = e; in-range = settings-shown (getD s 4 0) (leb-true (getD s 4 0) 100 few) })
+      let few = and-eq-true-iff (leb 1 (getD s 4 0)) (leb (getD s 4 0) 100) .0 (and-eq-true-iff (between 1 4 (getD s 2 0) && eqb (getD s 3 0) 0) (between 1 100 (getD s 4 0)) .0 h .1) .1 in
+      record { named = e; in-range = settings-shown (getD s 4 0) (leb-true (getD s 4 0) 100 few) })
       (refused 0x1D e)
   fields Unknown e r = refused c refl
 
@@ -267,7 +267,7 @@ fields-ruled c s QuickBlock = either (between 1 127 (getD s 2 0) && inOneRange (
 fields-ruled c s AskList =
     let pl = getD s 2 0 in
     either (eqb pl (2 * (pl / 2)) && between 1 63 (pl / 2) && allShown s (pl / 2)) _ _ (record { ruled = refl }) (record { ruled = refl })
-fields-ruled c s (Write f) = either (counted f s (countOf f s) && allSettings (pairsOf f s (countOf f s))) _ _ (record { ruled = refl }) (record { ruled = refl })
+fields-ruled c s (Write f) = either (wellCounted f s (countOf f s) && allSettings (pairsOf f s (countOf f s))) _ _ (record { ruled = refl }) (record { ruled = refl })
 fields-ruled c s (Ask q) = record { ruled = refl }
 fields-ruled c s AskSettings = either (between 1 4 (getD s 2 0) && eqb (getD s 3 0) 0 && between 1 100 (getD s 4 0)) _ _ (record { ruled = refl }) (record { ruled = refl })
 fields-ruled c s Unknown = record { ruled = refl }

@@ -11,7 +11,7 @@ use Rattle.requests.specs.declared.Request.the-variants as request
 use Rattle.settings.specs.declared.Verdict.{Verdict}
 use Rattle.settings.specs.declared.Verdict.the-variants.{Taken, OutOfRange, OutOfOrder}
 use Rattle.settings.specs.Settings as settings
-use Rattle.requests.specs.Requests.{against, expectedOf, blockOf, addressAt, allShown, listOf, pairAt, pairsOf, countOf, counted, allSettings, writeCommand, writeOf, fieldsOf, askedOf, draftedOf, writtenTo}
+use Rattle.requests.specs.Requests.{against, expectedOf, blockOf, addressAt, allShown, listOf, pairAt, pairsOf, countOf, wellCounted, allSettings, writeCommand, writeOf, fieldsOf, askedOf, draftedOf, writtenTo}
 
 -- those bytes, so many times
 times : ℕ → List ℕ → List ℕ
@@ -61,7 +61,7 @@ write-block :
     (write 2 (0x2C ∷ 0x01 ∷ []) ≡ against 0x0B) × (write 4 (0x2C ∷ 0x01 ∷ 0 ∷ 0 ∷ []) ≡ request.Write form.Block 1)
     × (write 202 (0x2C ∷ 0x01 ∷ replicate 200 0) ≡ request.Write form.Block 100) × (write 204 (0x2C ∷ 0x01 ∷ replicate 202 0) ≡ against 0x0B)
     × (write 202 (0x2D ∷ 0x01 ∷ replicate 200 0) ≡ against 0x0B) × (write 5 (0x2C ∷ 0x01 ∷ 0 ∷ 0 ∷ 0 ∷ []) ≡ against 0x0B)
-unfolding write askedOf expectedOf fieldsOf writeOf writeCommand countOf counted pairsOf pairAt allSettings
+unfolding write askedOf expectedOf fieldsOf writeOf writeCommand countOf wellCounted pairsOf pairAt allSettings
 write-block = (refl, refl, refl, refl, refl, refl)
 
 -- by list 1 to 50 pairs: none, 1, 50 and 51; 299 and 400; a PL that is no multiple of four
@@ -70,7 +70,7 @@ write-list :
     × (pairs 200 (times 50 (0x2C ∷ 0x01 ∷ 0 ∷ 0 ∷ [])) ≡ request.Write form.List 50) × (pairs 204 (times 51 (0x2C ∷ 0x01 ∷ 0 ∷ 0 ∷ [])) ≡ against 0x0D)
     × (pairs 4 (0x2B ∷ 0x01 ∷ 0 ∷ 0 ∷ []) ≡ against 0x0D) × (pairs 8 (0x2C ∷ 0x01 ∷ 0 ∷ 0 ∷ 0x90 ∷ 0x01 ∷ 0 ∷ 0 ∷ []) ≡ against 0x0D)
     × (pairs 6 (0x2C ∷ 0x01 ∷ 0 ∷ 0 ∷ 0x2C ∷ 0x01 ∷ []) ≡ against 0x0D)
-unfolding pairs times askedOf expectedOf fieldsOf writeOf writeCommand countOf counted pairsOf pairAt allSettings
+unfolding pairs times askedOf expectedOf fieldsOf writeOf writeCommand countOf wellCounted pairsOf pairAt allSettings
 write-list = (refl, refl, refl, refl, refl, refl, refl)
 
 -- a length that is not 7, or not 5+PL

@@ -116,10 +116,10 @@ countOf form.Block bytes = getD bytes 2 0 / 2 - 1
 countOf form.List bytes = getD bytes 2 0 / 4
 
 -- RL 1 to 100 and PL = 2·RL; n 1 to 100; n 1 to 50
-unfoldable pub counted : Form → List ℕ → ℕ → Bool
-counted form.Modbus bytes n = eqb (getD bytes 4 0) 0 && between 1 100 n && eqb (getD bytes 6 0) (2 * n)
-counted form.Block bytes n = between 1 100 n && eqb (getD bytes 2 0) (2 + 2 * n)
-counted form.List bytes n = between 1 50 n && eqb (getD bytes 2 0) (4 * n)
+unfoldable pub wellCounted : Form → List ℕ → ℕ → Bool
+wellCounted form.Modbus bytes n = eqb (getD bytes 4 0) 0 && between 1 100 n && eqb (getD bytes 6 0) (2 * n)
+wellCounted form.Block bytes n = between 1 100 n && eqb (getD bytes 2 0) (2 + 2 * n)
+wellCounted form.List bytes n = between 1 50 n && eqb (getD bytes 2 0) (4 * n)
 
 -- addresses all in 300 to 399
 unfoldable pub allSettings : List Pair → Bool
@@ -133,7 +133,7 @@ writeCommand form.Block = 0x0B
 writeCommand form.List = 0x0D
 
 unfoldable pub writeOf : Form → List ℕ → ℕ → Request
-writeOf f bytes n = cond (counted f bytes n && allSettings (pairsOf f bytes n)) (request.Write f n) (against (writeCommand f))
+writeOf f bytes n = cond (wellCounted f bytes n && allSettings (pairsOf f bytes n)) (request.Write f n) (against (writeCommand f))
 
 -- 0x1D: option 1 to 4 (minimum, maximum, default, current), 00, RL 1 to 100
 unfoldable pub kindOf : ℕ → Kind

@@ -2,7 +2,7 @@
 ghost use mathlib.Core.Path.{_≡_};
 ghost use Prim.Native.Nat.{_+_, _-_, _≤_};
 ghost use lib.ListN.{getD};
-ghost use Rattle.requests.specs.Requests.{be16At, le16At, expect, expectedOf, expectedBy, lengthOf, inOneRange, clearOf, blockOf, addressAt, allShown, listOf, pairAt, pairsOf, countOf, counted, allSettings, writeCommand, writeOf, kindOf, settingsOf, fieldsOf, askedOf, requestOf, refusalNumber, commandOf, hasLength, highFirst, marks, wordCount, draftedOf, writtenTo};
+ghost use Rattle.requests.specs.Requests.{be16At, le16At, expect, expectedOf, expectedBy, lengthOf, inOneRange, clearOf, blockOf, addressAt, allShown, listOf, pairAt, pairsOf, countOf, wellCounted, allSettings, writeCommand, writeOf, kindOf, settingsOf, fieldsOf, askedOf, requestOf, refusalNumber, commandOf, hasLength, highFirst, marks, wordCount, draftedOf, writtenTo};
 use settings::Draft;
 use settings::Kind;
 use settings::Settings;
@@ -10,8 +10,8 @@ use settings::Written;
 
 // A request that changes nothing but 0x11's mark. A reply to it is a head and words of sixteen bits.
 pub enum Query {
-    Registers { command: u8, at: u16, count: u8 },
-    Listed { count: u8 },
+    Registers { command: u8, at: u16, count: u8 }, // 0x03 and 0x07
+    Listed { count: u8 }, // 0x09; its addresses are the request's own bytes
     Live { command: u8, at: u16, count: u8 },
     NewEvents,
     AllEvents,
@@ -168,6 +168,19 @@ impl Query {
     }
 }
 
+impl Form {
+    // The command byte of each.
+    pub fn command(self) -> u8
+        ensures { λ r. ⌜ r ≡ writeCommand self ⌝ }
+    {
+        match self {
+            Form::Modbus => 0x10,
+            Form::Block => 0x0B,
+            Form::List => 0x0D,
+        }
+    }
+}
+
 // A whole request, of any bytes.
 pub fn parsed(bytes: &[u8]) -> Request
     ensures { λ r. ⌜ r ≡ requestOf (now (bytes .entry)) ⌝ }
@@ -216,19 +229,6 @@ pub fn written(settings: Settings, bytes: &[u8], form: Form, count: u8) -> Writt
     ensures { λ r. ⌜ r ≡ writtenTo settings (pairsOf form (now (bytes .entry)) count) ⌝ }
 {
     drafted(settings.draft(), bytes, form, count).finish()
-}
-
-impl Form {
-    // The command byte of each.
-    pub fn command(self) -> u8
-        ensures { λ r. ⌜ r ≡ writeCommand self ⌝ }
-    {
-        match self {
-            Form::Modbus => 0x10,
-            Form::Block => 0x0B,
-            Form::List => 0x0D,
-        }
-    }
 }
 
 // The registers, put into a draft one by one.
@@ -426,7 +426,7 @@ fn one_less(n: u8) -> u8
 
 // As many as it may have, and PL says so.
 fn is_counted(form: Form, bytes: &[u8], count: u8) -> bool
-    ensures { λ r. ⌜ r ≡ counted form (now (bytes .entry)) count ⌝ }
+    ensures { λ r. ⌜ r ≡ wellCounted form (now (bytes .entry)) count ⌝ }
 {
     let n = count as u16;
     let pl = byte_at(bytes, 2) as u16;

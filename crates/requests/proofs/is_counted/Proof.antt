@@ -1,5 +1,5 @@
 -- By cases on the form. Assumes nothing.
-use Rattle.requests.specs.Requests.{counted}
+use Rattle.requests.specs.Requests.{wellCounted}
 use borrow.Author.Needs.{needs}
 use Rattle.requests.proofs.is_counted.Statement.{statement}
 use Rattle.requests.proofs.is_counted.Tie as tie
@@ -41,15 +41,15 @@ mul-result-3 : tie.Need-mul-result-3
 mul-result-3 c = search needs
 
 returns : tie.Need-returns
-unfolding counted
+unfolding wellCounted
 returns c = rw (c .before .before .enum-told .given .1) cc
 
 returns-2 : tie.Need-returns-2
-unfolding counted
+unfolding wellCounted
 returns-2 c = rw (c .enum-told2 .given .1) cc
 
 returns-3 : tie.Need-returns-3
-unfolding counted
+unfolding wellCounted
 returns-3 c = rw (c .enum-told3 .given .1) cc
 
 pub is-counted-spec : {M : Type 1} → statement M
