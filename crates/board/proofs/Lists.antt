@@ -11,6 +11,7 @@ use Rattle.requests.specs.declared.Query.the-variants.{Registers, Listed}
 use Rattle.requests.specs.Requests.{addressAt}
 use Rattle.board.specs.declared.Board.{Board}
 use Rattle.board.specs.Frames.{valueAt, bodyBy, bodyOf}
+use Rattle.wire.proofs.Writing.{words-alike}
 
 -- the bytes after AA, CMD and PL
 abbrev pub payload : List ℕ → List ℕ
@@ -54,18 +55,7 @@ listed value f i (suc n) =
     ∙ ap (λ (l : List ℕ). le16 (value (f i)) ++ l) (listed value f (suc i) n)
     ∙ sym (front (λ at. le16 (value at)) f i n)
 
--- of addresses that follow each other
-in-a-row : (bytes : ℕ → List ℕ) (f : ℕ → ℕ) (at n : ℕ) → ((k : ℕ) → k < n → f k ≡ at + k) → words bytes f 0 n ≡ words bytes (λ i. i) at n
-unfolding words
-in-a-row bytes f at zero e = refl
-in-a-row bytes f at (suc n) e = rw (in-a-row bytes f at n (λ k l. e k (omega arith)), zero-add, e n (omega arith))
-
--- of what stands at a place
-by-value : (bytes : ℕ → List ℕ) (f : ℕ → ℕ) (at n : ℕ) → words (λ a. bytes (f a)) (λ i. i) at n ≡ words bytes f at n
-unfolding words
-by-value bytes f at zero = refl
-by-value bytes f at (suc n) = rw (by-value bytes f at n)
-
+-- of the block's, with the bytes of each exchanged
 swapped : (f : ℕ → ℕ) (at n : ℕ) → exchanged (words be16 f at n) ≡ words le16 f at n
 unfolding words
 swapped f at zero = refl
@@ -76,7 +66,10 @@ module _ (b : Board) (s t : List ℕ) where
   -- a list of a block's addresses, and the block by 0x07
   pub list-is-block : (at n : ℕ) → Lists s at n → registers (payload (bodyOf b s (Listed n))) ≡ payload (bodyOf b t (Registers 0x07 at n))
   unfolding bodyBy
-  list-is-block at n e = listed (valueAt b) (addressAt s) 0 n ∙ in-a-row (λ a. le16 (valueAt b a)) (addressAt s) at n e ∙ by-value le16 (valueAt b) at n
+  list-is-block at n e =
+      listed (valueAt b) (addressAt s) 0 n
+      ∙ words-alike (λ a. le16 (valueAt b a)) le16 (addressAt s) (valueAt b) 0 at n
+      (λ k l. ap (λ (a : ℕ). le16 (valueAt b a)) (ap (addressAt s) (zero-add k) ∙ e k l))
 
   -- a list of one address, whichever it is
   pub list-of-one : registers (payload (bodyOf b s (Listed 1))) ≡ payload (bodyOf b t (Registers 0x07 (addressAt s 0) 1))

@@ -19,33 +19,35 @@ use Rattle.requests.specs.declared.Form.the-variants as form
 use Rattle.requests.specs.declared.Refusal.the-variants.{Foreign, Damaged, Against}
 use Rattle.requests.specs.declared.Request.{Request}
 use Rattle.requests.specs.declared.Request.the-variants as request
-use Rattle.wire.specs.Wire.{le16, be16, le32, word16, words, sealed, nackOf, ackOf, Wrote, Filled, Lengthened, lengthByte}
-use Rattle.requests.specs.Requests.{be16At, addressAt, pairsOf, writeCommand, refusalNumber, commandOf, hasLength, highFirst, wordCount}
+use Rattle.wire.specs.Wire.{le16, le32, word16, words, sealed, nackOf, ackOf, Wrote, Filled, Lengthened, lengthByte}
+use Rattle.requests.specs.Requests.{addressAt, pairsOf, writeCommand, refusalNumber, commandOf, hasLength, highFirst, wordCount}
 use Rattle.board.specs.Frames.{valueAt, bodyBy, bodyOf, payloadOf, tooLong, writeNumber, refusalReply, takenReply, writeReply, queryReply, requestNumber, requestReply}
 use Rattle.board.specs.Numbers.{replyBytes}
 use Rattle.board.specs.Replies.{countOf, listedWord, wordOf, replyOf}
 use Rattle.pairs.specs.Pairs.{halfAt}
-use Rattle.wire.proofs.Writing.{join-at, reply, sealed-length, words-length, two-bytes, length-words}
+use Rattle.wire.proofs.Writing.{join-at, reply, sealed-length, words-alike, words-length, two-bytes, length-words}
 
 -- ---- words in a row
 
 -- a row that starts at a place is the row of what stands from there
 shifted : (bytes : ℕ → List ℕ) (f : ℕ → ℕ) (at n : ℕ) → words bytes (λ i. f (at + i)) 0 n ≡ words bytes f at n
+shifted bytes f at n = words-alike bytes bytes (λ i. f (at + i)) f 0 at n (λ i l. ap (λ (k : ℕ). bytes (f (at + k))) (zero-add i))
+
+-- two words for each place
+in-twos : (bytes : ℕ → List ℕ) (f word : ℕ → ℕ) → ((i : ℕ) → le16 (word (2 * i)) ++ le16 (word (suc (2 * i))) ≡ bytes (f i)) → (n : ℕ) → words le16 word 0 (2 * n) ≡ words bytes f 0 n
 unfolding words
-shifted bytes f at zero = refl
-shifted bytes f at (suc n) = rw (zero-add, shifted bytes f at n)
+in-twos bytes f word two zero = refl
+in-twos bytes f word two (suc n) =
+    let twice : 2 * suc n ≡ suc (suc (2 * n)) = omega arith in
+    rw twice (simp (zero-add, append-assoc, in-twos bytes f word two n, two n))
+
+-- an even place and the odd one after it
+twos : (n : ℕ) → (2 * n % 2 ≡ 0) × (suc (2 * n) % 2 ≡ 1) × (2 * n / 2 ≡ n) × (suc (2 * n) / 2 ≡ n)
+twos n = (omega arith, omega arith, omega arith, omega arith)
 
 -- each number of four bytes is its two halves
 halves : (f : ℕ → ℕ) (n : ℕ) → words le16 (halfAt f) 0 (2 * n) ≡ words le32 f 0 n
-unfolding words
-halves f zero = refl
-halves f (suc n) =
-    let twice : 2 * suc n ≡ suc (suc (2 * n)) = omega arith in
-    let even : 2 * n % 2 ≡ 0 = omega arith in
-    let odd : suc (2 * n) % 2 ≡ 1 = omega arith in
-    let low : 2 * n / 2 ≡ n = omega arith in
-    let high : suc (2 * n) / 2 ≡ n = omega arith in
-    rw twice (simp (zero-add, even, odd, low, high, halves f n, append-assoc))
+halves f = in-twos le32 f (halfAt f) (λ i. let (even, odd, low, high) = twos i in rw (even, odd, low, high))
 
 -- the lifetime and n events, after the number of their bytes
 events : (f : ℕ → ℕ) (n : ℕ) → 2 * (2 + 2 * n) ∷ words le16 (halfAt f) 0 (2 + 2 * n) ≡ (4 + 4 * n) ∷ words le32 f 0 (1 + n)
@@ -58,15 +60,8 @@ events f n =
 
 -- the words of a list: each address and its register
 list-words : (b : Board) (s : List ℕ) (n : ℕ) → words le16 (listedWord b s) 0 (2 * n) ≡ words (λ at. le16 at ++ le16 (valueAt b at)) (addressAt s) 0 n
-unfolding words listedWord
-list-words b s zero = refl
-list-words b s (suc n) =
-    let twice : 2 * suc n ≡ suc (suc (2 * n)) = omega arith in
-    let even : 2 * n % 2 ≡ 0 = omega arith in
-    let odd : suc (2 * n) % 2 ≡ 1 = omega arith in
-    let low : 2 * n / 2 ≡ n = omega arith in
-    let high : suc (2 * n) / 2 ≡ n = omega arith in
-    rw twice (simp (zero-add, even, odd, low, high, list-words b s n, append-assoc))
+unfolding listedWord
+list-words b s = in-twos (λ at. le16 at ++ le16 (valueAt b at)) (addressAt s) (listedWord b s) (λ i. let (even, odd, low, high) = twos i in rw (even, odd, low, high))
 
 pub as-sent : (b : Board) (s : List ℕ) (q : Query) → replyOf b s q (countOf b q) ≡ bodyOf b s q
 unfolding replyOf bodyBy wordCount hasLength highFirst wordOf commandOf words

@@ -48,7 +48,7 @@ use Rattle.requests.specs.declared.Request.the-variants as request
 use Rattle.pack.specs.Pack.{usableCount}
 use Rattle.hire.specs.Hire.{noSensed}
 use Rattle.board.specs.Start.{startBoard}
-use Rattle.requests.specs.Requests.{inOneRange, requestOf, addressAt, pairsOf, draftedOf, marks}
+use Rattle.requests.specs.Requests.{inOneRange, requestOf, addressAt, pairsOf}
 use Rattle.board.specs.Calls.{Call, tick, frame, handover, offer, fetch}
 use Rattle.board.specs.Behaviour.{afterIn, board}
 use Rattle.board.specs.Demands.{deeds}

@@ -4,7 +4,7 @@
 -- last value that an accepted write gave an unlisted register is 0.
 -- Assumes nothing.
 use mathlib.Core.Path.{_≡_, refl, sym, ap, ap₂, _∙_, subst⁻¹}
-use mathlib.Core.Bool.{Bool, true, false, _&&_, _||_, not, cond, false≢true}
+use mathlib.Core.Bool.{Bool, true, false, _&&_, not, cond, false≢true}
 use mathlib.Core.List.{List, [], _∷_, _++_, map, reverse}
 use Prim.Native.Nat.{ℕ, zero, suc, _+_, _*_, _-_, _≤_, _<_}
 use native.Mathlib.Nat.{zero-add}
@@ -15,7 +15,6 @@ use lib.ListN.{length, take, getD, set, length-set, getD-replicate}
 use lib.Seq.{getD-set-same, getD-set-other}
 use Rattle.laws.specs.History.{never, since, each, headOr, any, newest}
 use Rattle.pairs.specs.Pairs.{lowHalf, highHalf}
-use Rattle.readings.specs.Readings as readings
 use Rattle.settings.specs.declared.Settings.{Settings}
 use Rattle.settings.specs.declared.Draft.{Draft}
 use Rattle.settings.specs.declared.Kind.the-variants.{Current}
@@ -23,7 +22,6 @@ use Rattle.settings.specs.declared.Verdict.the-variants.{OutOfRange}
 use Rattle.settings.specs.Settings as settings
 use Rattle.signed.specs.Signed.{bitsOf, fromBits}
 use Rattle.statistics.specs.Statistics as statistics
-use Rattle.pack.specs.Pack.{usableCount}
 use Rattle.wire.specs.Wire.{le16, be16, word16, words, sealed, padded, nackOf}
 use Rattle.requests.specs.declared.Query.{Query}
 use Rattle.requests.specs.declared.Query.the-variants.{Registers, Listed, SettingsOf}
@@ -32,8 +30,9 @@ use Rattle.requests.specs.declared.Form.the-variants as form
 use Rattle.requests.specs.declared.Pair.{Pair}
 use Rattle.requests.specs.declared.Request.{Request}
 use Rattle.requests.specs.declared.Request.the-variants as request
-use Rattle.requests.specs.Requests.{be16At, le16At, requestOf, addressAt, pairAt, pairsOf, commandOf, marks, draftedOf}
+use Rattle.requests.specs.Requests.{be16At, le16At, requestOf, addressAt, pairAt, pairsOf, commandOf, draftedOf}
 use Rattle.requests.proofs.Sound.{inRange, readsInRange, settings-few, sound}
+use Rattle.wire.proofs.Writing.{words-alike}
 use Rattle.board.specs.declared.Board.{Board}
 use Rattle.board.specs.declared.Shown.{Shown}
 use Rattle.board.specs.declared.Shown.the-variants.{Register}
@@ -43,7 +42,7 @@ use Rattle.board.specs.Registers.{shownAt}
 use Rattle.board.specs.Frames.{valueOf, valueAt, bodyBy, bodyOf, tooLong, writeNumber, requestNumber, queryReply, requestReply, frameNumber, frameReply}
 use Rattle.board.specs.Calls.{Call, Seen, tick, frame, handover, step, offer, fetch}
 use Rattle.board.specs.Behaviour.{Behaviour, board, afterIn}
-use Rattle.board.specs.Account.{Deed, took, wrote, row, writing, names, lastOf, lastWritten, settingsAt, distanceAt, heardAt, heldAt, boardAt, asking, deedsOf}
+use Rattle.board.specs.Account.{Deed, wrote, row, writing, names, lastOf, lastWritten, settingsAt, distanceAt, heardAt, heldAt, boardAt, asking, deedsOf}
 use Rattle.board.proofs.Account.Deeds.{WhereAsked, any-asked, WhereDone, any-call, AfterOne, called-so}
 use Rattle.board.proofs.Account.Settings.{after-older}
 use Rattle.board.proofs.Account.Calls.{heard-more}
@@ -305,16 +304,14 @@ module _ (cells perKm : ℕ) (h : List Deed) (given : Given cells perKm h) where
 
 -- ---- of the board after any calls
 
--- rows of equal numbers
+-- rows of equal numbers, and of equal registers at the same addresses
 pub words-same : (bytes : ℕ → List ℕ) (f g : ℕ → ℕ) (at n : ℕ) → ((i : ℕ) → i < n → f (at + i) ≡ g (at + i)) → words bytes f at n ≡ words bytes g at n
-unfolding words
-words-same bytes f g at zero e = refl
-words-same bytes f g at (suc n) e = rw (words-same bytes f g at n (λ i l. e i (omega arith)), e n (omega arith))
+words-same bytes f g at n e = words-alike bytes bytes f g at at n (λ i l. ap bytes (e i l))
 
 pub listed-same : (f g a : ℕ → ℕ) (n : ℕ) → ((i : ℕ) → i < n → f (a i) ≡ g (a i)) → words (λ at. le16 at ++ le16 (f at)) a 0 n ≡ words (λ at. le16 at ++ le16 (g at)) a 0 n
-unfolding words
-listed-same f g a zero e = refl
-listed-same f g a (suc n) e = rw (listed-same f g a n (λ i l. e i (omega arith)), zero-add, e n (omega arith))
+listed-same f g a n e =
+    words-alike (λ at. le16 at ++ le16 (f at)) (λ at. le16 at ++ le16 (g at)) a a 0 0 n
+    (λ i l. rw zero-add (ap (λ (v : ℕ). le16 (a i) ++ le16 v) (e i l)))
 
 module _ (cells perKm : ℕ) (cs : List Call) (typed : Typed cs) where
   abbrev after : Board

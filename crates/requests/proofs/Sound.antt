@@ -12,7 +12,6 @@ use lib.ListN.{length, take, getD}
 use Rattle.crc.specs.Crc.{crcOf}
 use Rattle.requests.specs.declared.Query.{Query}
 use Rattle.requests.specs.declared.Query.the-variants.{Registers, Listed, Live, NewEvents, AllEvents, Temperatures, Cells, SettingsOf}
-use Rattle.requests.specs.declared.Form.{Form}
 use Rattle.requests.specs.declared.Form.the-variants as form
 use Rattle.requests.specs.declared.Command.{Command}
 use Rattle.requests.specs.declared.Command.the-variants.{Clear, Block, QuickBlock, AskList, Write, Ask, AskSettings, Unknown}

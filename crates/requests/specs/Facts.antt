@@ -1,4 +1,4 @@
--- The field rules of W-202's commands, computed: each request asks what it must, or is against a rule. Two bytes of CRC stand at each end.
+-- The field rules of W-202's commands, computed: each request asks what it must, or is against a rule. Two bytes stand for the CRC.
 -- Assumes nothing.
 use mathlib.Core.Path.{_≡_, refl}
 use mathlib.Core.List.{List, [], _∷_, _++_, map}

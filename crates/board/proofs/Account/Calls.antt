@@ -2,7 +2,7 @@
 use mathlib.Core.Path.{_≡_, refl, sym, ap, ap₂, _∙_}
 use mathlib.Core.Bool.{Bool, true, false, _&&_, _||_, not, cond}
 use mathlib.Core.List.{List, _∷_, _++_, reverse, reverse-append, reverse-reverse}
-use Prim.Native.Nat.{ℕ, zero, suc, _+_, _*_, _≤_}
+use Prim.Native.Nat.{ℕ, _+_, _*_, _≤_}
 use native.Mathlib.Omega.{arith}
 use borrow.Author.Tests.{le-ltb}
 use lib.Dec.{eqb, ltb}
@@ -17,7 +17,7 @@ use Rattle.guard.specs.Table.{chargeOff, dischargeOff}
 use Rattle.readings.specs.declared.Readings.{Readings}
 use Rattle.readings.specs.Readings as readings
 use Rattle.receiver.specs.declared.Receiver.{Receiver}
-use Rattle.receiver.specs.Receiver.{complete, isHeld, filled, taken, offeredOf}
+use Rattle.receiver.specs.Receiver.{complete, isHeld, taken, offeredOf}
 use Rattle.receiver.specs.Heard.{takes, afterHearing}
 use Rattle.receiver.proofs.Heard.{held, is-held, hearing, heard-all, heard-taken, as-many}
 use Rattle.settings.specs.declared.Verdict.{Verdict}

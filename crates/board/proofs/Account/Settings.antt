@@ -1,7 +1,7 @@
 -- What an accepted write makes of the settings, register by register; so after every history of calls each setting is in its range
 -- and the three limits are in order. Assumes nothing.
 use mathlib.Core.Path.{_≡_, refl, sym, ap, _∙_, subst⁻¹}
-use mathlib.Core.Bool.{Bool, true, false, _&&_, cond, and-false, false≢true}
+use mathlib.Core.Bool.{Bool, true, false, cond, and-false, false≢true}
 use mathlib.Core.List.{List, [], _∷_, _++_, map}
 use Prim.Native.Nat.{ℕ, _≤_}
 use borrow.Author.Tests.{leb-true}
@@ -15,7 +15,7 @@ use Rattle.signed.specs.Signed.{fromBits}
 use Rattle.requests.specs.declared.Pair.{Pair}
 use Rattle.requests.specs.declared.Request.{Request}
 use Rattle.requests.specs.declared.Request.the-variants as request
-use Rattle.requests.specs.Requests.{requestOf, pairsOf, draftedOf, marks}
+use Rattle.requests.specs.Requests.{requestOf, pairsOf, draftedOf}
 use Rattle.board.specs.Calls.{Call, tick, frame, handover, offer, fetch}
 use Rattle.board.specs.Account.{Deed, took, wrote, cleared, forgot, sent, handed, heard, fetched, row, writing, names, lastOf, lastWritten, settingsAt, heldAt, asking, calling, deedsOf}
 use Rattle.board.proofs.Account.Deeds.{WhereAsked, any-asked, WhereDone, any-call}
