@@ -15,11 +15,15 @@ static void add_high_first(struct request *request, int value)
     add(request, value);
 }
 
+static void add_low_first(struct request *request, int value)
+{
+    add(request, value);
+    add(request, value >> 8);
+}
+
 static void add_crc(struct request *request)
 {
-    const uint16_t crc = crc_of(request->bytes, request->length);
-    add(request, crc);
-    add(request, crc >> 8);
+    add_low_first(request, crc_of(request->bytes, request->length));
 }
 
 /* ---- Reads and writes ---- */
@@ -32,20 +36,29 @@ int pick_end(struct script *script)
     return PICK(script, ends);
 }
 
+struct block {
+    int address, RL;
+};
+
 /* Whole ranges mostly: they show all the state that there is. Else blocks at and across the ends of the ranges. */
+static struct block pick_block(struct script *script)
+{
+    static const struct block whole[] = {{0, 56}, {0, 56}, {100, 18}, {100, 18}, {100, 18}, {300, 100}};
+    static const int lengths[] = {0, 1, 1, 2, 2, 18, 19, 56, 57, 100, 101, 127, 128, 255};
+    struct block block = PICK(script, whole);
+    if (one_in(script, 3)) {
+        block.address = one_in(script, 6) ? between(script, 0, 420) : pick_end(script);
+        block.RL = one_in(script, 2) ? between(script, 1, 20) : PICK(script, lengths);
+    }
+    return block;
+}
+
 static void ask_registers(struct script *script, struct request *request)
 {
-    static const int whole[][2] = {{0, 56}, {0, 56}, {100, 18}, {100, 18}, {100, 18}, {300, 100}};
-    static const int lengths[] = {0, 1, 1, 2, 2, 18, 19, 56, 57, 100, 101, 127, 128, 255};
-    const int *block = PICK(script, whole);
-    int address = block[0], RL = block[1];
-    if (one_in(script, 3)) {
-        address = one_in(script, 6) ? between(script, 0, 420) : pick_end(script);
-        RL = one_in(script, 2) ? between(script, 1, 20) : PICK(script, lengths);
-    }
-    add_high_first(request, address);
+    const struct block block = pick_block(script);
+    add_high_first(request, block.address);
     add(request, one_in(script, 60) ? between(script, 1, 255) : 0);
-    add(request, RL);
+    add(request, block.RL);
 }
 
 static const unsigned listed[] = {301, 303, 308, 315, 316, 317, 318, 319, 320, 332, 334, 335};
@@ -97,37 +110,50 @@ static struct settings make_settings(struct script *script)
             wanted.of[number - 300] = (uint16_t)make_value(script, number);
         }
     }
-    const int one = between(script, 0, 99);
+    const int one = one_in(script, 4) ? PICK(script, ((const int[]){0, 99})) : between(script, 0, 99);
     if (one_in(script, 20))
         wanted.of[one] = (uint16_t)(one_in(script, 2) ? 1 : between(script, 0, 65535));
     return wanted;
 }
 
-static void ask_write(struct script *script, struct request *request)
+/* The block that changes the board's settings to those that are wanted, with some around it at times; now and then
+   another address or count. */
+static struct block pick_changes(struct script *script, const struct settings *wanted)
 {
-    const struct settings wanted = make_settings(script);
     int first = 0, last = 99;
-    while (first < 99 && wanted.of[first] == script->board.settings.of[first])
+    while (first < 99 && wanted->of[first] == script->board.settings.of[first])
         first++;
-    while (last > first && wanted.of[last] == script->board.settings.of[last])
+    while (last > first && wanted->of[last] == script->board.settings.of[last])
         last--;
     if (one_in(script, 4))
         first = between(script, 0, first);
     if (one_in(script, 4))
         last = between(script, last, one_in(script, 8) ? 100 : 99);
-    int address = 300 + first, RL = last - first + 1, PL = 2 * RL;
+    struct block block = {300 + first, last - first + 1};
+    if (one_in(script, 12))
+        block = (struct block){300, 100};
     if (one_in(script, 40))
-        address = PICK(script, ((const int[]){0, 55, 100, 299, 300, 399, 400, 65535}));
-    if (one_in(script, 60))
-        RL = PICK(script, ((const int[]){0, 1, 100, 101, 255}));
+        block.address = PICK(script, ((const int[]){0, 55, 100, 299, 300, 399, 400, 65535}));
     if (one_in(script, 40))
-        PL = near(script, 2 * RL);
-    add_high_first(request, address);
+        block.RL = PICK(script, ((const int[]){0, 0, 1, 100, 101, 255}));
+    return block;
+}
+
+static int wanted_at(const struct settings *wanted, int number)
+{
+    return number >= 300 && number <= 399 ? wanted->of[number - 300] : 0;
+}
+
+static void ask_write(struct script *script, struct request *request)
+{
+    const struct settings wanted = make_settings(script);
+    const struct block block = pick_changes(script, &wanted);
+    add_high_first(request, block.address);
     add(request, one_in(script, 60) ? between(script, 1, 255) : 0);
-    add(request, RL);
-    add(request, PL);
-    for (int at = 0; at < RL; at++)
-        add_high_first(request, first + at < 100 ? wanted.of[first + at] : 0);
+    add(request, block.RL);
+    add(request, one_in(script, 40) ? near(script, 2 * block.RL) : 2 * block.RL);
+    for (int at = 0; at < block.RL; at++)
+        add_high_first(request, wanted_at(&wanted, block.address + at));
 }
 
 static void ask_settings(struct script *script, struct request *request)
@@ -136,6 +162,132 @@ static void ask_settings(struct script *script, struct request *request)
     add(request, one_in(script, 8) ? PICK(script, ((const int[]){0, 5, 255})) : between(script, 1, 4));
     add(request, one_in(script, 30) ? between(script, 1, 255) : 0);
     add(request, one_in(script, 3) ? PICK(script, lengths) : between(script, 1, 100));
+}
+
+/* ---- The quicker commands of W-202 ---- */
+
+static void ask_registers_quickly(struct script *script, struct request *request)
+{
+    const struct block block = pick_block(script);
+    add(request, block.RL);
+    add_low_first(request, block.address);
+}
+
+/* "Reads by list give 1 to 63 addresses": of any range, some twice; in one list of six one may be of none. */
+static void ask_list(struct script *script, struct request *request)
+{
+    static const struct block ranges[] = {{0, 56}, {100, 18}, {300, 100}};
+    static const int counts[] = {0, 1, 1, 2, 62, 63, 63, 63, 64, 65, 126};
+    const int addresses = one_in(script, 3) ? PICK(script, counts) : between(script, 1, 20);
+    const int stray = between(script, 0, 6 * addresses);
+    int address = 0;
+    add(request, 2 * addresses);
+    for (int at = 0; at < addresses; at++) {
+        const struct block range = PICK(script, ranges);
+        if (at == 0 || !one_in(script, 8))
+            address = at == stray ? pick_end(script) : between(script, range.address, range.address + range.RL - 1);
+        add_low_first(request, address);
+    }
+}
+
+static void ask_write_quickly(struct script *script, struct request *request)
+{
+    const struct settings wanted = make_settings(script);
+    const struct block block = pick_changes(script, &wanted);
+    add(request, 2 + 2 * block.RL);
+    add_low_first(request, block.address);
+    for (int at = 0; at < block.RL; at++)
+        add_low_first(request, wanted_at(&wanted, block.address + at));
+}
+
+static void add_pair(struct request *request, struct settings *after, int number, int value)
+{
+    add_low_first(request, number);
+    add_low_first(request, value);
+    after->of[number - 300] = (uint16_t)value;
+}
+
+/* "only the final values are judged": values that later pairs may undo, forbidden ones and those of unlisted registers
+   among them. */
+static void pass_through(struct script *script, struct request *request, struct settings *after, int pairs)
+{
+    const bool few = pairs <= 4;
+    for (int pair = 0; pair < pairs; pair++) {
+        const bool any = few && one_in(script, 3);
+        const int number = any ? between(script, 300, 399) : (int)PICK(script, listed);
+        const bool far = one_in(script, 3);
+        add_pair(request, after, number, far ? between(script, 0, 65535) : make_value(script, (unsigned)number));
+    }
+}
+
+/* Now and then a pair whose address cannot be written. */
+static void stray(struct script *script, struct request *request)
+{
+    if (!one_in(script, 50))
+        return;
+    add_low_first(request, PICK(script, ((const int[]){0, 55, 100, 299, 299, 400, 400, 65535})));
+    add_low_first(request, 0);
+}
+
+/* Pairs that change nothing more, up to so many. */
+static void fill_up(struct script *script, struct request *request, struct settings *after, int pairs)
+{
+    while (request->length < 3 + 4 * (size_t)pairs) {
+        const int number = between(script, 300, 399);
+        add_pair(request, after, number, after->of[number - 300]);
+    }
+}
+
+/* "Writes by list give 1 to 50 pairs": some to pass through, then in any order those that leave the wanted settings,
+   and now and then one more; a long list has 49, 50 or 51. */
+static void ask_write_list(struct script *script, struct request *request)
+{
+    const struct settings wanted = make_settings(script);
+    struct settings after = script->board.settings;
+    const int first = between(script, 0, 99);
+    const bool is_long = one_in(script, 8);
+    add(request, 0);
+    stray(script, request);
+    pass_through(script, request, &after, is_long ? between(script, 10, 35) : between(script, 0, 4));
+    stray(script, request);
+    for (int step = 0; step < 100; step++) {
+        const int at = (first + 37 * step) % 100;
+        if (after.of[at] != wanted.of[at] || one_in(script, 200))
+            add_pair(request, &after, 300 + at, wanted.of[at]);
+    }
+    if (is_long)
+        fill_up(script, request, &after, near(script, 50));
+    else if (one_in(script, 12))
+        pass_through(script, request, &after, 1);
+    stray(script, request);
+    request->bytes[2] = (uint8_t)(request->length - 3);
+}
+
+/* "5+PL" bytes, whatever PL is: bytes are lost or come on top, and PL counts them or does not. */
+static void press_PL(struct script *script, struct request *request)
+{
+    const bool counts_them = one_in(script, 2);
+    const int change = between(script, -4, 4);
+    for (int lost = -change; lost > 0 && request->length > 3; lost--)
+        request->length--;
+    for (int more = change; more > 0; more--)
+        add(request, between(script, 0, 2));
+    if (counts_them)
+        request->bytes[2] = (uint8_t)(request->length - 3);
+}
+
+static void ask_quickly(struct script *script, struct request *request)
+{
+    static const uint8_t commands[] = {0x07, 0x09, 0x0B, 0x0D};
+    request->bytes[1] = PICK(script, commands);
+    switch (request->bytes[1]) {
+    case 0x07: ask_registers_quickly(script, request); break;
+    case 0x09: ask_list(script, request); break;
+    case 0x0B: ask_write_quickly(script, request); break;
+    default: ask_write_list(script, request); break;
+    }
+    if (request->bytes[1] != 0x07 && one_in(script, 8))
+        press_PL(script, request);
 }
 
 /* ---- Requests of every kind ---- */
@@ -156,7 +308,9 @@ void ask(struct script *script, struct request *request)
     static const uint8_t short_commands[] = {0x14, 0x15, 0x16, 0x17, 0x18, 0x19, 0x1B, 0x1C};
     const int kind = between(script, 0, 99);
     *request = (struct request){{0xAA, 0x03}, 2};
-    if (one_in(script, script->reads_of_events)) {
+    if (between(script, 1, 100) <= script->quick_commands) {
+        ask_quickly(script, request);
+    } else if (one_in(script, script->reads_of_events)) {
         request->bytes[1] = 0x11;
     } else if (kind < 45) {
         ask_registers(script, request);
@@ -221,14 +375,28 @@ void ask_as_app(struct script *script, struct request *request)
     add_crc(request);
 }
 
-/* "for 0x10 from its PL byte (9+PL, at most 264)": a frame of that length, its RL as it may be. */
-void ask_by_PL(struct script *script, struct request *request)
+static void add_payload(struct script *script, struct request *request, int PL)
 {
-    const int PL = PICK(script, ((const int[]){0, 1, 2, 2, 3, 4, 200, 254, 255, 255}));
-    *request = (struct request){{0xAA, 0x10, 0x01, 0x4C, 0}, 5};
-    add(request, one_in(script, 4) ? between(script, 0, 255) : near(script, PL / 2));
-    add(request, PL);
     for (int at = 0; at < PL; at++)
         add(request, one_in(script, 2) ? 0 : between(script, 0, 30));
+}
+
+/* "for 0x10 from its PL byte (9+PL, at most 264)", and for the quicker commands 5+PL: a frame of that length, its RL
+   and its payload as they may be. */
+void ask_by_PL(struct script *script, struct request *request)
+{
+    static const int of_0x10[] = {0, 1, 2, 2, 3, 4, 200, 254, 255, 255};
+    static const int of_quicker[] = {0, 1, 2, 3, 4, 4, 6, 8, 126, 128, 200, 202, 204, 254, 255, 255};
+    static const uint8_t quicker[] = {0x09, 0x0B, 0x0D};
+    *request = (struct request){{0xAA, 0x10, 0x01, 0x4C, 0}, 5};
+    int PL = PICK(script, of_0x10);
+    if (one_in(script, 3)) {
+        add(request, one_in(script, 4) ? between(script, 0, 255) : near(script, PL / 2));
+    } else {
+        *request = (struct request){{0xAA, PICK(script, quicker)}, 2};
+        PL = PICK(script, of_quicker);
+    }
+    add(request, PL);
+    add_payload(script, request, PL);
     add_crc(request);
 }

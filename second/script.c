@@ -440,14 +440,15 @@ void print_script(uint64_t seed, uint64_t calls, enum script_kind kind)
 {
     static struct script script;
     char ignored[ANSWER_ROOM];
-    script = (struct script){.chance = seed, .unstarted = 4, .reads_of_events = 12};
+    script = (struct script){.chance = seed, .unstarted = 4, .reads_of_events = 12,
+                             .quick_commands = kind == QUICK ? 26 : 12};
     board_start(&script.board, 0, 0);
     for (uint64_t call = 0; call < calls; call++) {
         script.length = 0;
-        if (kind == MIXED)
-            say_call(&script);
-        else
+        if (kind == TICKS || kind == FRAMES)
             say_call_of_one_kind(&script, kind, call);
+        else
+            say_call(&script);
         answer_line(&script.board, script.line, script.length, ignored);
         fwrite(script.line, 1, script.length, stdout);
         fputs(one_in(&script, 50) ? "\r\n" : "\n", stdout);

@@ -16,7 +16,8 @@ struct script {
     int quiet;                  /* ticks left of a quiet run */
     int around_OT;              /* ticks left of a run around OT */
     enum heat internal, external[2];    /* in that run */
-    int reads_of_events;        /* one frame in so many is 0x11 */
+    int quick_commands;         /* so many requests of 100 are of W-202 */
+    int reads_of_events;        /* one other request in so many is 0x11 */
     uint8_t waiting[3 * MOST_BYTES];    /* bytes on the raw line that are still to be offered */
     size_t waiting_length;
     char line[LONGEST_LINE + 100];
@@ -38,7 +39,7 @@ int pick_end(struct script *script);
 
 void add(struct request *request, int byte);
 
-/* Requests with their CRC: of any kind, right or against a rule; of a length that a PL decides; as an app sends them. */
+/* Requests with their CRC: of any kind, right or against a rule; as long as a PL says; as an app sends them. */
 void ask(struct script *script, struct request *request);
 void ask_by_PL(struct script *script, struct request *request);
 void ask_as_app(struct script *script, struct request *request);
