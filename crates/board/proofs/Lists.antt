@@ -10,7 +10,7 @@ use Rattle.wire.specs.Wire.{le16, be16, words}
 use Rattle.requests.specs.declared.Query.the-variants.{Registers, Listed}
 use Rattle.requests.specs.Requests.{addressAt}
 use Rattle.board.specs.declared.Board.{Board}
-use Rattle.board.specs.Frames.{valueAt, bodyBy, bodyOf}
+use Rattle.board.specs.Frames.{valueAt, withRegister, bodyBy, bodyOf}
 use Rattle.wire.proofs.Writing.{words-alike}
 
 -- the bytes after AA, CMD and PL
@@ -47,11 +47,11 @@ front bytes f at (suc n) =
     ∙ ap (λ (k : ℕ). bytes (f at) ++ (words bytes f (suc at) n ++ bytes (f k))) next
 
 -- of the list's reply
-listed : (value f : ℕ → ℕ) (i n : ℕ) → registers (words (λ at. le16 at ++ le16 (value at)) f i n) ≡ words (λ at. le16 (value at)) f i n
+listed : (value f : ℕ → ℕ) (i n : ℕ) → registers (words (withRegister value) f i n) ≡ words (λ at. le16 (value at)) f i n
 unfolding words
 listed value f i zero = refl
 listed value f i (suc n) =
-    ap registers (front (λ at. le16 at ++ le16 (value at)) f i n)
+    ap registers (front (withRegister value) f i n)
     ∙ ap (λ (l : List ℕ). le16 (value (f i)) ++ l) (listed value f (suc i) n)
     ∙ sym (front (λ at. le16 (value at)) f i n)
 

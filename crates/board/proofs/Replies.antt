@@ -21,7 +21,7 @@ use Rattle.requests.specs.declared.Request.{Request}
 use Rattle.requests.specs.declared.Request.the-variants as request
 use Rattle.wire.specs.Wire.{le16, le32, word16, words, sealed, nackOf, ackOf, Wrote, Filled, Lengthened, lengthByte}
 use Rattle.requests.specs.Requests.{addressAt, pairsOf, writeCommand, refusalNumber, commandOf, hasLength, highFirst, wordCount}
-use Rattle.board.specs.Frames.{valueAt, bodyBy, bodyOf, payloadOf, tooLong, writeNumber, refusalReply, takenReply, writeReply, queryReply, requestNumber, requestReply}
+use Rattle.board.specs.Frames.{valueAt, withRegister, bodyBy, bodyOf, payloadOf, tooLong, writeNumber, refusalReply, takenReply, writeReply, queryReply, requestNumber, requestReply}
 use Rattle.board.specs.Numbers.{replyBytes}
 use Rattle.board.specs.Replies.{countOf, listedWord, wordOf, replyOf}
 use Rattle.pairs.specs.Pairs.{halfAt}
@@ -59,9 +59,9 @@ events f n =
 -- ---- what is sent
 
 -- the words of a list: each address and its register
-list-words : (b : Board) (s : List ℕ) (n : ℕ) → words le16 (listedWord b s) 0 (2 * n) ≡ words (λ at. le16 at ++ le16 (valueAt b at)) (addressAt s) 0 n
+list-words : (b : Board) (s : List ℕ) (n : ℕ) → words le16 (listedWord b s) 0 (2 * n) ≡ words (withRegister (valueAt b)) (addressAt s) 0 n
 unfolding listedWord
-list-words b s = in-twos (λ at. le16 at ++ le16 (valueAt b at)) (addressAt s) (listedWord b s) (λ i. let (even, odd, low, high) = twos i in rw (even, odd, low, high))
+list-words b s = in-twos (withRegister (valueAt b)) (addressAt s) (listedWord b s) (λ i. let (even, odd, low, high) = twos i in rw (even, odd, low, high))
 
 pub as-sent : (b : Board) (s : List ℕ) (q : Query) → replyOf b s q (countOf b q) ≡ bodyOf b s q
 unfolding replyOf bodyBy wordCount hasLength highFirst wordOf commandOf words
@@ -120,7 +120,7 @@ short b q {n} e h = rw (payload b q, ← e) (le-ltb 254 (2 * n) (omega arith))
 body-length : (b : Board) (s : List ℕ) (q : Query) → length (bodyOf b s q) ≡ cond (hasLength q) 3 2 + payloadOf b q
 unfolding bodyBy payloadOf hasLength
 body-length b s (Registers command at n) = omega (arith, words-length 2 (word16 (eqb command 0x03)) (valueAt b) at n (two-bytes (eqb command 0x03)))
-body-length b s (Listed n) = omega (arith, words-length 4 (λ at. le16 at ++ le16 (valueAt b at)) (addressAt s) 0 n (λ w. refl))
+body-length b s (Listed n) = omega (arith, words-length 4 (withRegister (valueAt b)) (addressAt s) 0 n (λ w. refl))
 body-length b s (Live command at n) = omega (arith, words-length 2 le16 (valueAt b) at n (λ w. refl))
 body-length b s NewEvents =
     omega (arith, words-length 4 le32 (eventLongs (b .pack .clock .seconds) (newOf (b .hire .events))) 0 (1 + newCount (b .hire .events)) (λ w. refl))

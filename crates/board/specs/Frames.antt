@@ -37,11 +37,15 @@ valueOf Nothing = 0
 unfoldable pub valueAt : Board → ℕ → ℕ
 valueAt b at = valueOf (shownAt b at)
 
+-- of a list, an address and its register
+abbrev pub withRegister : (ℕ → ℕ) → ℕ → List ℕ
+withRegister value at = le16 at ++ le16 (value at)
+
 -- the bytes that answer a query of the request s, before the CRC, where registers show those values. Except in 0x03 and 0x10, multi-byte
 -- data goes low byte first. To 0x09, for each address in order the address and its register
 unfoldable pub bodyBy : (ℕ → ℕ) → Board → List ℕ → Query → List ℕ
 bodyBy value b s (Registers command at n) = 0xAA ∷ command ∷ 2 * n ∷ words (word16 (eqb command 0x03)) value at n
-bodyBy value b s (Listed n) = 0xAA ∷ 0x09 ∷ 4 * n ∷ words (λ at. le16 at ++ le16 (value at)) (addressAt s) 0 n
+bodyBy value b s (Listed n) = 0xAA ∷ 0x09 ∷ 4 * n ∷ words (withRegister value) (addressAt s) 0 n
 bodyBy value b s (Live command at n) = 0xAA ∷ command ∷ words le16 value at n
 bodyBy value b s NewEvents =
     0xAA ∷ 0x11 ∷ (4 + 4 * newCount (b .hire .events)) ∷ words le32 (eventLongs (b .pack .clock .seconds) (newOf (b .hire .events))) 0 (1 + newCount (b .hire .events))

@@ -39,7 +39,7 @@ use Rattle.board.specs.declared.Shown.the-variants.{Register}
 use Rattle.board.specs.State.{usable}
 use Rattle.board.specs.Start.{startBoard}
 use Rattle.board.specs.Registers.{shownAt}
-use Rattle.board.specs.Frames.{valueOf, valueAt, bodyBy, bodyOf, tooLong, writeNumber, requestNumber, queryReply, requestReply, frameNumber, frameReply}
+use Rattle.board.specs.Frames.{valueOf, valueAt, withRegister, bodyBy, bodyOf, tooLong, writeNumber, requestNumber, queryReply, requestReply, frameNumber, frameReply}
 use Rattle.board.specs.Calls.{Call, Seen, tick, frame, handover, step, offer, fetch}
 use Rattle.board.specs.Behaviour.{Behaviour, board, afterIn}
 use Rattle.board.specs.Account.{Deed, wrote, row, writing, names, lastOf, lastWritten, settingsAt, distanceAt, heardAt, heldAt, boardAt, asking, deedsOf}
@@ -308,9 +308,9 @@ module _ (cells perKm : ℕ) (h : List Deed) (given : Given cells perKm h) where
 pub words-same : (bytes : ℕ → List ℕ) (f g : ℕ → ℕ) (at n : ℕ) → ((i : ℕ) → i < n → f (at + i) ≡ g (at + i)) → words bytes f at n ≡ words bytes g at n
 words-same bytes f g at n e = words-alike bytes bytes f g at at n (λ i l. ap bytes (e i l))
 
-pub listed-same : (f g a : ℕ → ℕ) (n : ℕ) → ((i : ℕ) → i < n → f (a i) ≡ g (a i)) → words (λ at. le16 at ++ le16 (f at)) a 0 n ≡ words (λ at. le16 at ++ le16 (g at)) a 0 n
+pub listed-same : (f g a : ℕ → ℕ) (n : ℕ) → ((i : ℕ) → i < n → f (a i) ≡ g (a i)) → words (withRegister f) a 0 n ≡ words (withRegister g) a 0 n
 listed-same f g a n e =
-    words-alike (λ at. le16 at ++ le16 (f at)) (λ at. le16 at ++ le16 (g at)) a a 0 0 n
+    words-alike (withRegister f) (withRegister g) a a 0 0 n
     (λ i l. rw zero-add (ap (λ (v : ℕ). le16 (a i) ++ le16 v) (e i l)))
 
 module _ (cells perKm : ℕ) (cs : List Call) (typed : Typed cs) where
@@ -344,7 +344,7 @@ module _ (cells perKm : ℕ) (cs : List Call) (typed : Typed cs) where
 
   -- the reply of 0x09: the settings of a list
   pub list-reads : (s : List ℕ) (n : ℕ) → ((i : ℕ) → i < n → (300 ≤ addressAt s i) × (addressAt s i ≤ 399))
-      → bodyOf after s (Listed n) ≡ 0xAA ∷ 0x09 ∷ 4 * n ∷ words (λ at. le16 at ++ le16 (lastGiven at made)) (addressAt s) 0 n
+      → bodyOf after s (Listed n) ≡ 0xAA ∷ 0x09 ∷ 4 * n ∷ words (withRegister (λ k. lastGiven k made)) (addressAt s) 0 n
   unfolding bodyBy valueAt
   list-reads s n inside =
       ap (λ (bytes : List ℕ). 0xAA ∷ 0x09 ∷ 4 * n ∷ bytes)
@@ -383,7 +383,7 @@ pub record ReadsBack (B : Behaviour) : Type 0 where
       → seenAt B cells perKm cs s room .buffer ≡ padded room (sealed (0xAA ∷ command ∷ 2 * n ∷ words (word16 (eqb command 0x03)) (λ k. lastGiven k (deeds cells perKm cs)) at n))
   pub list : (cells perKm : ℕ) (cs : List Call) → Typed cs → (s : List ℕ) (room n : ℕ)
       → requestOf s ≡ request.Read (Listed n) → ((i : ℕ) → i < n → (300 ≤ addressAt s i) × (addressAt s i ≤ 399)) → seenAt B cells perKm cs s room .number ≡ 0
-      → seenAt B cells perKm cs s room .buffer ≡ padded room (sealed (0xAA ∷ 0x09 ∷ 4 * n ∷ words (λ at. le16 at ++ le16 (lastGiven at (deeds cells perKm cs))) (addressAt s) 0 n))
+      → seenAt B cells perKm cs s room .buffer ≡ padded room (sealed (0xAA ∷ 0x09 ∷ 4 * n ∷ words (withRegister (λ k. lastGiven k (deeds cells perKm cs))) (addressAt s) 0 n))
   pub current : (cells perKm : ℕ) (cs : List Call) → Typed cs → (s : List ℕ) (room n : ℕ)
       → requestOf s ≡ request.Read (SettingsOf Current n) → seenAt B cells perKm cs s room .number ≡ 0
       → seenAt B cells perKm cs s room .buffer ≡ padded room (sealed (0xAA ∷ 0x1D ∷ 2 * n ∷ words le16 (λ k. lastGiven k (deeds cells perKm cs)) 300 n))
