@@ -7,8 +7,8 @@
 #include <stdint.h>
 
 /* "Numbers the caller gets", 6 and 7 of W-201, 61 and 62 of W-211. Number 5 (a reply payload above 254 bytes) has no
-   place here: a register block lies in one range, so a payload is 200 bytes at most (100 registers), and 48 events
-   make 196. */
+   place here: a register block lies in one range, so its payload is 200 bytes at most (100 registers), 48 events make
+   196, and a list of 63 registers makes 252. */
 enum number {
     DONE = 0,
     ROOM_TOO_SMALL = 1,

@@ -17,10 +17,11 @@ enum {
    0 for a line that gives none. */
 size_t answer_line(struct board *board, const char *line, size_t length, char answer[ANSWER_ROOM]);
 
-/* What a script is made of: calls of every kind, ticks alone, or what an app sends with some ticks between. */
-enum script_kind { MIXED, TICKS, FRAMES };
+/* What a script is made of: calls of every kind, ticks alone, what an app sends with some ticks between, or calls of
+   every kind with a quarter of the frames by the quicker commands of W-202. */
+enum script_kind { MIXED, TICKS, FRAMES, QUICK };
 
-/* Prints a script of calls, the first of them a start where they are not mixed; always the same for one seed. */
+/* Prints a script of calls, the first of them a start where they are ticks or frames; always the same for one seed. */
 void print_script(uint64_t seed, uint64_t calls, enum script_kind kind);
 
 /* Prints the named script that drives a count to its end; false where there is none of that name. */

@@ -1,4 +1,4 @@
-/* Frames: the CRC, the replies and the commands of document 01. */
+/* Frames: the CRC, the replies, the commands of document 01 and the quicker ones of W-202. */
 #include "board.h"
 
 #include <string.h>
@@ -89,9 +89,28 @@ static void put_head(struct reply *reply, uint8_t command)
     put(reply, command);
 }
 
+/* "ACK: AA 01 CMD CRC." */
+static void put_ack(struct reply *reply, uint8_t command)
+{
+    put_head(reply, 0x01);
+    put(reply, command);
+}
+
 static uint32_t pair(const struct board *board, unsigned number)
 {
     return board_register(board, number) | (uint32_t)board_register(board, number + 1) << 16;
+}
+
+/* ---- Words of a request ---- */
+
+static unsigned high_first(const uint8_t *bytes)
+{
+    return (unsigned)bytes[0] << 8 | bytes[1];
+}
+
+static unsigned low_first(const uint8_t *bytes)
+{
+    return bytes[0] | (unsigned)bytes[1] << 8;
 }
 
 /* ---- Commands: each is done, or refused with nothing changed ---- */
@@ -105,23 +124,65 @@ static bool clear(struct board *board, uint8_t option, struct reply *reply)
         clear_statistics(board);
     else
         return false;
-    put(reply, 0xAA);
-    put(reply, 0x01);
-    put(reply, 0x02);
+    put_ack(reply, 0x02);
     return true;
 }
 
-/* "0x03, 8 bytes: address high, low, 00, RL. RL 1 to 127. Reply AA 03 PL, then each register high byte first" */
-static bool read_block(const struct board *board, const uint8_t *frame, struct reply *reply)
+/* "RL 1 to 127", and "A register block must lie in one range" */
+static bool may_be_read(unsigned address, unsigned RL)
 {
-    const unsigned address = (unsigned)frame[2] << 8 | frame[3];
-    const unsigned RL = frame[5];
-    if (frame[4] != 0x00 || RL < 1 || RL > 127 || !in_one_range(address, RL))
+    return RL >= 1 && RL <= 127 && in_one_range(address, RL);
+}
+
+/* "0x03, 8 bytes: address high, low, 00, RL. RL 1 to 127. Reply AA 03 PL, then each register high byte first" */
+static bool read_block_high_first(const struct board *board, const uint8_t *frame, struct reply *reply)
+{
+    const unsigned address = high_first(frame + 2), RL = frame[5];
+    if (frame[4] != 0x00 || !may_be_read(address, RL))
         return false;
     put_head(reply, 0x03);
     put(reply, (uint8_t)(2 * RL));
     for (unsigned at = 0; at < RL; at++)
         put_high_first(reply, board_register(board, address + at));
+    return true;
+}
+
+/* Document 000, 1.1.2: AA 07 RL ADDR, and the reply AA 07 PL DATA. W-202: "by block 1 to 127". */
+static bool read_block(const struct board *board, const uint8_t *frame, struct reply *reply)
+{
+    const unsigned RL = frame[2], address = low_first(frame + 3);
+    if (!may_be_read(address, RL))
+        return false;
+    put_head(reply, 0x07);
+    put(reply, (uint8_t)(2 * RL));
+    for (unsigned at = 0; at < RL; at++)
+        put_low_first(reply, board_register(board, address + at), 2);
+    return true;
+}
+
+/* "a read address outside 01's three ranges is number 4", "A read list may mix ranges" */
+static bool each_may_be_read(const uint8_t *address, unsigned addresses)
+{
+    for (unsigned at = 0; at < addresses; at++)
+        if (!in_one_range(low_first(address + 2 * at), 1))
+            return false;
+    return true;
+}
+
+/* Document 000, 1.1.3: AA 09 PL, addresses, and the reply AA 09 PL, each address with its register.
+   W-202: "Reads by list give 1 to 63 addresses". */
+static bool read_list(const struct board *board, const uint8_t *frame, struct reply *reply)
+{
+    const unsigned PL = frame[2], addresses = PL / 2;
+    if (PL % 2 != 0 || addresses < 1 || addresses > 63 || !each_may_be_read(frame + 3, addresses))
+        return false;
+    put_head(reply, 0x09);
+    put(reply, (uint8_t)(4 * addresses));
+    for (unsigned at = 0; at < addresses; at++) {
+        const unsigned address = low_first(frame + 3 + 2 * at);
+        put_low_first(reply, address, 2);
+        put_low_first(reply, board_register(board, address), 2);
+    }
     return true;
 }
 
@@ -131,37 +192,82 @@ static bool in_its_range(const struct settings *settings, unsigned number)
     return value >= read_setting(&least_settings, number) && value <= read_setting(&greatest_settings, number);
 }
 
-/* "A write is taken whole or not at all, and only if afterwards 316 <= 301 < 315" */
-static bool write_settings(struct board *board, unsigned first, unsigned RL, const uint8_t *data)
+/* "A write is taken whole or not at all, and only if afterwards 316 <= 301 < 315"
+   W-202: "only the final values are judged". A register that is not written is in its range already. */
+static bool take_settings(struct board *board, const struct settings *after)
 {
-    struct settings after = board->settings;
-    for (unsigned at = 0; at < RL; at++) {
-        const unsigned number = first + at;
-        after.of[number - 300] = (uint16_t)(data[2 * at] << 8 | data[2 * at + 1]);
-        if (!in_its_range(&after, number))
+    for (unsigned number = 300; number <= 399; number++) {
+        if (!in_its_range(after, number))
             return false;
         if (board_fault == 3)
-            board->settings.of[number - 300] = after.of[number - 300];
+            board->settings.of[number - 300] = after->of[number - 300];
     }
-    if (read_setting(&after, 316) > read_setting(&after, 301) || read_setting(&after, 301) >= read_setting(&after, 315))
+    if (read_setting(after, 316) > read_setting(after, 301) || read_setting(after, 301) >= read_setting(after, 315))
         return false;
-    board->settings = after;
+    board->settings = *after;
     return true;
+}
+
+/* "addresses all in 300 to 399" */
+static bool may_be_written(unsigned address, unsigned registers)
+{
+    return address >= 300 && address + registers - 1 <= 399;
 }
 
 /* "0x10, 9+2*RL bytes: address high, low, 00, RL, PL, registers high byte first. RL 1 to 100, PL = 2*RL, addresses
    all in 300 to 399. Reply AA 10 address high, low, 00, RL, CRC." */
-static bool write_block(struct board *board, const uint8_t *frame, struct reply *reply)
+static bool write_block_high_first(struct board *board, const uint8_t *frame, struct reply *reply)
 {
-    const unsigned address = (unsigned)frame[2] << 8 | frame[3];
-    const unsigned RL = frame[5], PL = frame[6];
-    if (frame[4] != 0x00 || RL < 1 || RL > 100 || PL != 2 * RL)
+    const unsigned address = high_first(frame + 2), RL = frame[5], PL = frame[6];
+    if (frame[4] != 0x00 || RL < 1 || RL > 100 || PL != 2 * RL || !may_be_written(address, RL))
         return false;
-    if (address < 300 || address + RL - 1 > 399 || !write_settings(board, address, RL, frame + 7))
+    struct settings after = board->settings;
+    for (unsigned at = 0; at < RL; at++)
+        after.of[address - 300 + at] = (uint16_t)high_first(frame + 7 + 2 * at);
+    if (!take_settings(board, &after))
         return false;
     put_head(reply, 0x10);
     put_high_first(reply, (uint16_t)address);
     put_high_first(reply, (uint16_t)RL);
+    return true;
+}
+
+/* Document 000, 1.1.4: AA 0B PL ADDR, registers, and the reply ACK. W-202: "by block 1 to 100 registers, all in 300
+   to 399". The address is a word of the payload too. */
+static bool write_block(struct board *board, const uint8_t *frame, struct reply *reply)
+{
+    const unsigned PL = frame[2], words = PL / 2;
+    if (PL % 2 != 0 || words < 1 + 1 || words > 1 + 100)
+        return false;
+    const unsigned address = low_first(frame + 3), registers = words - 1;
+    if (!may_be_written(address, registers))
+        return false;
+    struct settings after = board->settings;
+    for (unsigned at = 0; at < registers; at++)
+        after.of[address - 300 + at] = (uint16_t)low_first(frame + 5 + 2 * at);
+    if (!take_settings(board, &after))
+        return false;
+    put_ack(reply, 0x0B);
+    return true;
+}
+
+/* Document 000, 1.1.5: AA 0D PL, pairs of an address and its value, and the reply ACK. W-202: "Writes by list give 1 to
+   50 pairs, ... all in 300 to 399", "A repeated address takes the later value". */
+static bool write_list(struct board *board, const uint8_t *frame, struct reply *reply)
+{
+    const unsigned PL = frame[2], pairs = PL / 4;
+    if (PL % 4 != 0 || pairs < 1 || pairs > 50)
+        return false;
+    struct settings after = board->settings;
+    for (unsigned at = 0; at < pairs; at++) {
+        const unsigned address = low_first(frame + 3 + 4 * at);
+        if (!may_be_written(address, 1))
+            return false;
+        after.of[address - 300] = (uint16_t)low_first(frame + 5 + 4 * at);
+    }
+    if (!take_settings(board, &after))
+        return false;
+    put_ack(reply, 0x0D);
     return true;
 }
 
@@ -229,7 +335,8 @@ static bool send_settings(const struct board *board, const uint8_t *frame, struc
 }
 
 /* W-201: "The length follows from the command, for 0x10 from its PL byte (9+PL, at most 264), and is 4 for an unknown
-   command." With PL = 2*RL this is document 01's 9+2*RL. */
+   command." With PL = 2*RL this is document 01's 9+2*RL.
+   W-202: "W-201 learns the new frame lengths from those sections": 7, and 5+PL. */
 size_t length_of_request(const uint8_t *first, size_t bytes)
 {
     if (bytes < 2)
@@ -237,6 +344,10 @@ size_t length_of_request(const uint8_t *first, size_t bytes)
     switch (first[1]) {
     case 0x02: return 5;
     case 0x03: return 8;
+    case 0x07: return 7;
+    case 0x09:
+    case 0x0B:
+    case 0x0D: return bytes < 3 ? 5 : 5 + (size_t)first[2];
     case 0x10: return bytes < 7 ? 9 : 9 + (size_t)first[6];
     case 0x1D: return 7;
     default: return 4;
@@ -250,8 +361,12 @@ static bool obey(struct board *board, const uint8_t *frame, size_t length, struc
         return false;
     switch (frame[1]) {
     case 0x02: return clear(board, frame[2], reply);
-    case 0x03: return read_block(board, frame, reply);
-    case 0x10: return write_block(board, frame, reply);
+    case 0x03: return read_block_high_first(board, frame, reply);
+    case 0x07: return read_block(board, frame, reply);
+    case 0x09: return read_list(board, frame, reply);
+    case 0x0B: return write_block(board, frame, reply);
+    case 0x0D: return write_list(board, frame, reply);
+    case 0x10: return write_block_high_first(board, frame, reply);
     case 0x11:
     case 0x12: return send_events(board, frame[1], reply);
     case 0x14: return send_data(0x14, pair(board, 36), 4, reply);

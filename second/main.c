@@ -1,7 +1,7 @@
 /* second                          answers calls from standard input on standard output
    second --fault N                the same with one slip of the old board, N 1 to 6
    second --script SEED CALLS      prints a script of calls that press the limits
-   second --script SEED CALLS K    prints a script of one kind, K ticks or frames
+   second --script SEED CALLS K    the same of one kind, K ticks or frames; K quick: a quarter of its frames are of W-202
    second --limits NAME            prints a script that drives a count to its end; limits.c has the names
    second --compare NAME SCRIPT    holds the board's answers, on standard input, to its own answers to the file SCRIPT
    second --replay                 plays a recording from standard input, and prints its events
@@ -182,16 +182,22 @@ enum { ALL_WELL = 0, FAILED = 1, WRONG_WORDS = 2 };
 
 static int print_script_of(int words, char **word)
 {
+    static const struct {
+        const char *name;
+        enum script_kind kind;
+    } kinds[] = {{"ticks", TICKS}, {"frames", FRAMES}, {"quick", QUICK}};
     const uint64_t seed = number_of("SEED", word[2], 0, UINT64_MAX), calls = number_of("CALLS", word[3], 1, UINT64_MAX);
-    if (words == 4)
+    if (words == 4) {
         print_script(seed, calls, MIXED);
-    else if (words == 5 && strcmp(word[4], "ticks") == 0)
-        print_script(seed, calls, TICKS);
-    else if (words == 5 && strcmp(word[4], "frames") == 0)
-        print_script(seed, calls, FRAMES);
-    else
-        return WRONG_WORDS;
-    return ALL_WELL;
+        return ALL_WELL;
+    }
+    for (size_t at = 0; words == 5 && at < sizeof kinds / sizeof kinds[0]; at++) {
+        if (strcmp(word[4], kinds[at].name) == 0) {
+            print_script(seed, calls, kinds[at].kind);
+            return ALL_WELL;
+        }
+    }
+    return WRONG_WORDS;
 }
 
 static int write_recording_of(int words, char **word)
@@ -235,7 +241,7 @@ int main(int words, char **word)
 {
     const int status = obey_words(words, word);
     if (status == WRONG_WORDS)
-        fputs("usage: second | second --fault 1..6 | second --script SEED CALLS [ticks|frames]\n"
+        fputs("usage: second | second --fault 1..6 | second --script SEED CALLS [ticks|frames|quick]\n"
               "       second --limits latchings|currents|distance|event-time | second --compare NAME SCRIPT\n"
               "       second --replay | second --calls | second --engine | second --line\n"
               "       second --record SEED TICKS [DAMAGE], DAMAGE one of\n"

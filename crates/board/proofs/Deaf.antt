@@ -12,7 +12,7 @@ use Rattle.pack.specs.Pack.{tickNumber}
 use Rattle.readings.specs.declared.Readings.{Readings}
 use Rattle.receiver.specs.declared.Receiver.{Receiver}
 use Rattle.requests.specs.declared.Query.{Query}
-use Rattle.requests.specs.declared.Query.the-variants.{Registers, Live, NewEvents, AllEvents, Temperatures, Cells, SettingsOf}
+use Rattle.requests.specs.declared.Query.the-variants.{Registers, Listed, Live, NewEvents, AllEvents, Temperatures, Cells, SettingsOf}
 use Rattle.requests.specs.declared.Request.{Request}
 use Rattle.requests.specs.declared.Request.the-variants as request
 use Rattle.requests.specs.Requests.{requestOf, commandOf}
@@ -32,19 +32,21 @@ use Rattle.board.proofs.Opened.{steps}
 module _ (b : Board) (r : Receiver) where
   -- ---- a frame
 
-  bodies : (q : Query) → bodyOf (withReceiver b r) q ≡ bodyOf b q
+  bodies : (s : List ℕ) (q : Query) → bodyOf (withReceiver b r) s q ≡ bodyOf b s q
   unfolding valueAt shownAt liveRegister bodyBy
-  bodies (Registers at n) = refl
-  bodies (Live command at n) = refl
-  bodies NewEvents = refl
-  bodies AllEvents = refl
-  bodies Temperatures = refl
-  bodies Cells = refl
-  bodies (SettingsOf kind n) = refl
+  bodies s (Registers command at n) = refl
+  bodies s (Listed n) = refl
+  bodies s (Live command at n) = refl
+  bodies s NewEvents = refl
+  bodies s AllEvents = refl
+  bodies s Temperatures = refl
+  bodies s Cells = refl
+  bodies s (SettingsOf kind n) = refl
 
   payloads : (q : Query) → payloadOf (withReceiver b r) q ≡ payloadOf b q
   unfolding payloadOf
-  payloads (Registers at n) = refl
+  payloads (Registers command at n) = refl
+  payloads (Listed n) = refl
   payloads (Live command at n) = refl
   payloads NewEvents = refl
   payloads AllEvents = refl
@@ -57,7 +59,7 @@ module _ (b : Board) (r : Receiver) where
   request-number s (request.Refused refusal) = refl
   request-number s request.ClearEvents = refl
   request-number s request.ClearStatistics = refl
-  request-number s (request.Write from n) = refl
+  request-number s (request.Write f n) = refl
   request-number s (request.Read q) = ap (λ (n : ℕ). cond (ltb 254 n) 5 0) (payloads q)
 
   request-reply : (s : List ℕ) (q : Request) → requestReply (withReceiver b r) s q ≡ requestReply b s q
@@ -65,15 +67,15 @@ module _ (b : Board) (r : Receiver) where
   request-reply s (request.Refused refusal) = refl
   request-reply s request.ClearEvents = refl
   request-reply s request.ClearStatistics = refl
-  request-reply s (request.Write from n) = refl
-  request-reply s (request.Read q) = ap₂ (λ (n : ℕ) (body : List ℕ). sealed (cond (ltb 254 n) (nackOf (commandOf q) 0x00) body)) (payloads q) (bodies q)
+  request-reply s (request.Write f n) = refl
+  request-reply s (request.Read q) = ap₂ (λ (n : ℕ) (body : List ℕ). sealed (cond (ltb 254 n) (nackOf (commandOf q) 0x00) body)) (payloads q) (bodies s q)
 
   request-changes : (s : List ℕ) (q : Request) → changedBy (withReceiver b r) s q ≡ withReceiver (changedBy b s q) r
   unfolding changedBy
   request-changes s (request.Refused refusal) = refl
   request-changes s request.ClearEvents = refl
   request-changes s request.ClearStatistics = refl
-  request-changes s (request.Write from n) = refl
+  request-changes s (request.Write f n) = refl
   request-changes s (request.Read q) = refl
 
   request-board : (s : List ℕ) (q : Request) → requestBoard (withReceiver b r) s q ≡ withReceiver (requestBoard b s q) r

@@ -1,4 +1,5 @@
 pub mod Replies
+pub mod Lists
 pub mod Promises
 pub mod Opened
 pub mod Deaf

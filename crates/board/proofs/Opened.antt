@@ -21,8 +21,8 @@ use Rattle.hire.specs.Registers.{liveRegister}
 use Rattle.board.specs.Registers.{shownAt}
 use Rattle.board.specs.Handover.{handedOver, handoverOf}
 use Rattle.wire.specs.Wire.{words, sealed, padded}
-use Rattle.requests.specs.Requests.{expectedOf, lengthOf, clearOf, blockOf, writeOf, kindOf, settingsOf, fieldsOf, askedOf, requestOf, refusalNumber, commandOf, hasLength, draftedOf, marks}
-use Rattle.board.specs.Frames.{valueAt, bodyBy, bodyOf, payloadOf, requestNumber, changedBy, requestBoard, refusalReply, writeReply, queryReply, requestReply, frameNumber, frameBoard, frameReply}
+use Rattle.requests.specs.Requests.{expectedOf, lengthOf, clearOf, blockOf, addressAt, allShown, listOf, pairAt, pairsOf, countOf, wellCounted, allSettings, writeCommand, writeOf, kindOf, settingsOf, fieldsOf, askedOf, requestOf, refusalNumber, commandOf, hasLength, draftedOf, marks}
+use Rattle.board.specs.Frames.{valueAt, bodyBy, bodyOf, payloadOf, requestNumber, changedBy, requestBoard, refusalReply, takenReply, writeReply, queryReply, requestReply, frameNumber, frameBoard, frameReply}
 use Rattle.receiver.specs.Receiver.{isHeld, withByte, offeredOf}
 use Rattle.board.specs.Line.{offerOf, fetchNumber, fetchBoard, fetchReply}
 use Rattle.board.specs.Calls.{step}
@@ -36,7 +36,7 @@ unfolding tickedOf sensed watched acted readingsKept timePassed ridden chargerSe
 steps = tt
 
 unfoldable pub opened : Unit {0}
-unfolding shifted packed crc.crcOf crc.byteIn crc.times crc.shiftedOut events.latest events.noEvents events.addOf events.sentOf holdsOf waitsOf recoversOf latchedOf guardOf is chargeOff dischargeOff faulty latchEvent recoveryEvent eventOf live.bitsOf live.speedBitsOf readings.judgedOf readings.numberOf settings.ofKind settings.registerOf settings.listed settings.withOf settings.noneBelow settings.inRange settings.ordered settings.judgedOf settings.numberOf settings.putOf settings.verdictOf settings.standingOf signed.bitsOf signed.fromBits signed.degreesOf statistics.distanceOf statistics.countsOf statistics.temperaturesShown statistics.riddenOf statistics.countedOf statistics.clearedAt statistics.registerOf newHire newPack startBoard steps laterOf statusFor tickNumber tickOf liveRegister shownAt handedOver handoverOf words sealed padded expectedOf clearOf blockOf writeOf kindOf settingsOf fieldsOf askedOf requestOf valueAt bodyBy payloadOf commandOf marks refusalNumber draftedOf requestNumber changedBy requestBoard refusalReply writeReply queryReply requestReply frameNumber frameBoard frameReply lengthOf isHeld withByte offeredOf offerOf fetchNumber fetchBoard fetchReply step afterIn answersIn
+unfolding shifted packed crc.crcOf crc.byteIn crc.times crc.shiftedOut events.latest events.noEvents events.addOf events.sentOf holdsOf waitsOf recoversOf latchedOf guardOf is chargeOff dischargeOff faulty latchEvent recoveryEvent eventOf live.bitsOf live.speedBitsOf readings.judgedOf readings.numberOf settings.ofKind settings.registerOf settings.listed settings.withOf settings.noneBelow settings.inRange settings.ordered settings.judgedOf settings.numberOf settings.putOf settings.verdictOf settings.standingOf signed.bitsOf signed.fromBits signed.degreesOf statistics.distanceOf statistics.countsOf statistics.temperaturesShown statistics.riddenOf statistics.countedOf statistics.clearedAt statistics.registerOf newHire newPack startBoard steps laterOf statusFor tickNumber tickOf liveRegister shownAt handedOver handoverOf words sealed padded expectedOf clearOf blockOf addressAt allShown listOf pairAt pairsOf countOf wellCounted allSettings writeCommand writeOf kindOf settingsOf fieldsOf askedOf requestOf valueAt bodyBy payloadOf commandOf marks refusalNumber draftedOf requestNumber changedBy requestBoard refusalReply takenReply writeReply queryReply requestReply frameNumber frameBoard frameReply lengthOf isHeld withByte offeredOf offerOf fetchNumber fetchBoard fetchReply step afterIn answersIn
 opened = tt
 
 unfoldable pub accounted : Unit {0}

@@ -4,8 +4,8 @@
 -- Assumes nothing.
 use mathlib.Core.Bool.{Bool, true, false, _&&_, _||_, not, cond}
 use mathlib.Core.List.{List, [], _∷_, _++_, map, reverse}
-use Prim.Native.Nat.{ℕ, _+_, _*_, _-_, _/_, _%_, min}
-use lib.Dec.{eqb, leb, ltb}
+use Prim.Native.Nat.{ℕ, _+_, _-_, _/_, _%_, min}
+use lib.Dec.{eqb, ltb}
 use lib.IntN.{ℤ, pos}
 use lib.ListN.{length, take}
 use Rattle.laws.specs.History.{never, since, from, each, largest, sum, count, headOr, some, newest, latest}
@@ -34,19 +34,20 @@ use Rattle.statistics.specs.Statistics.{hundreds, distanceOf}
 use Rattle.pack.specs.declared.Clock.{Clock}
 use Rattle.hire.specs.declared.Sensed.{Sensed}
 use Rattle.board.specs.declared.Board.{Board}
+use Rattle.requests.specs.declared.Pair.{Pair}
 use Rattle.requests.specs.declared.Request.{Request}
 use Rattle.requests.specs.declared.Request.the-variants as request
 use Rattle.pack.specs.Pack.{usableCount}
 use Rattle.hire.specs.Hire.{noSensed}
 use Rattle.hire.specs.Tick.{chargerEvent, statusFor}
-use Rattle.requests.specs.Requests.{be16At, requestOf, marks, writtenTo}
+use Rattle.requests.specs.Requests.{requestOf, pairsOf, marks, writtenTo}
 use Rattle.board.specs.Calls.{Call, tick, frame, handover, offer, fetch}
 
 -- ---- deeds
 
 pub data Deed : Type 0 where
   took : List ℕ → Readings → Deed  -- an accepted tick
-  wrote : List ℕ → ℕ → ℕ → Deed  -- an accepted write: its bytes, its first register past 300, how many
+  wrote : List Pair → Deed  -- an accepted write: its registers and their values, the last first
   cleared : Deed  -- statistics, by 0x02 option 02
   forgot : Deed  -- events, by 0x02 option 01
   sent : Deed  -- new events, by 0x11
@@ -57,7 +58,7 @@ pub data Deed : Type 0 where
 -- what each deed has: a tick, a write, bytes off the raw line, and which of the marks of a history it is
 pub record Row : Type 0 where
   pub ticks : List (List ℕ × Readings)
-  pub writes : List (List ℕ × ℕ × ℕ)
+  pub writes : List Pair
   pub clears : Bool
   pub forgets : Bool
   pub sends : Bool
@@ -67,7 +68,7 @@ pub record Row : Type 0 where
 
 abbrev pub row : Deed → Row
 row (took cells r) = record { ticks = (cells, r) ∷ []; writes = []; clears = false; forgets = false; sends = false; hands = false; hears = []; drops = false }
-row (wrote s from n) = record { ticks = []; writes = (s, from, n) ∷ []; clears = false; forgets = false; sends = false; hands = false; hears = []; drops = false }
+row (wrote ps) = record { ticks = []; writes = ps; clears = false; forgets = false; sends = false; hands = false; hears = []; drops = false }
 row cleared = record { ticks = []; writes = []; clears = true; forgets = false; sends = false; hands = false; hears = []; drops = false }
 row forgot = record { ticks = []; writes = []; clears = false; forgets = true; sends = false; hands = false; hears = []; drops = false }
 row sent = record { ticks = []; writes = []; clears = false; forgets = false; sends = true; hands = false; hears = []; drops = false }
@@ -92,26 +93,26 @@ drops d = row d .drops
 abbrev pub settles : Deed → Bool
 settles d = row d .forgets || row d .sends
 
--- the tick, the write of this moment, if it is one
+-- the tick, the registers written at this moment, if it is one
 abbrev pub ticking : List Deed → List (List ℕ × Readings)
 ticking [] = []
 ticking (d ∷ h) = row d .ticks
 
-abbrev pub writing : List Deed → List (List ℕ × ℕ × ℕ)
+abbrev pub writing : List Deed → List Pair
 writing [] = []
 writing (d ∷ h) = row d .writes
 
 -- ---- settings: each is its last accepted write
 
--- a write covers a register, and what it gives it
-abbrev pub covers : ℕ → List ℕ × ℕ × ℕ → Bool
-covers register w = leb (300 + w .1) register && ltb register (300 + w .1 + w .2)
+-- what the last of these pairs that names a register gives it; a repeated address takes the later value
+abbrev pub names : ℕ → Pair → Bool
+names register p = eqb (p .at) register
 
-abbrev pub given : ℕ → List ℕ × ℕ × ℕ → ℕ
-given register w = be16At (w .0) (7 + 2 * (register - (300 + w .1)))
+abbrev pub lastOf : {A : Type 0} → A → ℕ → (ℕ → A) → List Pair → A
+lastOf factory register value ps = headOr factory (map (λ p. value (p .value)) (newest (names register) ps))
 
 abbrev pub lastWritten : {A : Type 0} → A → ℕ → (ℕ → A) → List Deed → A
-lastWritten factory register value h = headOr factory (map (λ w. value (given register w)) (newest (covers register) (each writing (since never h))))
+lastWritten factory register value h = lastOf factory register value (each writing (since never h))
 
 unfoldable pub settingsAt : List Deed → Settings
 settingsAt h =
@@ -349,7 +350,7 @@ unfoldable pub asking : Settings → List ℕ → Request → List Deed → List
 asking st s (request.Refused refusal) h = h
 asking st s request.ClearEvents h = forgot ∷ h
 asking st s request.ClearStatistics h = cleared ∷ h
-asking st s (request.Write from n) h = cond (eqb (settings.numberOf (writtenTo st s from n .verdict)) 0) (wrote s from n ∷ h) h
+asking st s (request.Write f n) h = cond (eqb (settings.numberOf (writtenTo st (pairsOf f s n) .verdict)) 0) (wrote (pairsOf f s n) ∷ h) h
 asking st s (request.Read q) h = cond (marks q) (sent ∷ h) h
 
 -- a call, on a board with those start numbers

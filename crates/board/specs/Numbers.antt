@@ -11,9 +11,10 @@ use Rattle.receiver.specs.Receiver.{complete}
 use Rattle.readings.specs.Readings.{wrongCells, wrongCurrent, noInternal, wrongPulses}
 use Rattle.settings.specs.declared.Settings.{Settings}
 use Rattle.pack.specs.Pack.{usableCount}
+use Rattle.requests.specs.declared.Form.the-variants as form
 use Rattle.requests.specs.declared.Request.{Request}
 use Rattle.requests.specs.declared.Request.the-variants as request
-use Rattle.requests.specs.Requests.{le16At, hasLength, askedOf}
+use Rattle.requests.specs.Requests.{le16At, pairsOf, hasLength, askedOf}
 use Rattle.board.specs.declared.Board.{Board}
 use Rattle.board.specs.Frames.{payloadOf, tooLong, writeNumber}
 use Rattle.board.specs.Calls.{Call, tick, frame, handover, offer, fetch}
@@ -32,7 +33,7 @@ unfoldable pub against : Settings → List ℕ → Request → Bool
 against st s (request.Refused refusal) = true
 against st s request.ClearEvents = false
 against st s request.ClearStatistics = false
-against st s (request.Write from n) = not (eqb (writeNumber st s from n) 0)
+against st s (request.Write f n) = not (eqb (writeNumber st (pairsOf f s n)) 0)
 against st s (request.Read q) = false
 
 -- 5: reply payload above 254 bytes
@@ -40,7 +41,7 @@ unfoldable pub long : Board → Request → Bool
 long b (request.Refused refusal) = false
 long b request.ClearEvents = false
 long b request.ClearStatistics = false
-long b (request.Write from n) = false
+long b (request.Write f n) = false
 long b (request.Read q) = tooLong b q
 
 -- what a request whose CRC is right asks
@@ -82,5 +83,7 @@ unfoldable pub replyBytes : Board → Request → ℕ
 replyBytes b (request.Refused refusal) = 0
 replyBytes b request.ClearEvents = 5
 replyBytes b request.ClearStatistics = 5
-replyBytes b (request.Write from n) = 8
+replyBytes b (request.Write form.Modbus n) = 8
+replyBytes b (request.Write form.Block n) = 5
+replyBytes b (request.Write form.List n) = 5
 replyBytes b (request.Read q) = cond (hasLength q) 5 4 + payloadOf b q

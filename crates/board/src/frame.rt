@@ -1,15 +1,17 @@
 // A frame: one whole request, answered into a lent buffer.
 ghost use mathlib.Core.Bool.{cond};
+ghost use mathlib.Core.List.{_∷_, _++_};
 ghost use mathlib.Core.Path.{_≡_};
 ghost use Prim.Native.Nat.{_+_, _≤_};
-ghost use Rattle.wire.specs.Wire.{word16, words, sealed, ackOf, Wrote, Filled};
-ghost use Rattle.requests.specs.Requests.{refusalNumber, highFirst};
-ghost use Rattle.board.specs.Frames.{clearedEvents, clearedStatistics, written, markedBy, changedBy, tooLong, queryReply, refusalReply, writeNumber, writeReply, requestNumber, requestReply};
+ghost use Rattle.wire.specs.Wire.{be16, word16, words, sealed, ackOf, Wrote, Filled};
+ghost use Rattle.requests.specs.Requests.{pairsOf, refusalNumber, highFirst};
+ghost use Rattle.board.specs.Frames.{clearedEvents, clearedStatistics, written, markedBy, changedBy, tooLong, queryReply, refusalReply, writeNumber, takenReply, writeReply, requestNumber, requestReply};
 ghost use Rattle.board.specs.Promises.{Frames};
-ghost use Rattle.board.specs.Replies.{wordOf, replyOf, Replied};
+ghost use Rattle.board.specs.Replies.{listedWord, wordOf, replyOf, Replied};
 use crate::Answer;
 use crate::Board;
 use events::Events;
+use requests::Form;
 use requests::Query;
 use requests::Refusal;
 use requests::Request;
@@ -45,10 +47,10 @@ impl Board {
             Request::Refused(refusal) => refuse(refusal, reply),
             Request::ClearEvents => acknowledge(reply),
             Request::ClearStatistics => acknowledge(reply),
-            Request::Write { from, count } => {
-                confirm(self.pack.settings, request, from, count, reply)
+            Request::Write { form, count } => {
+                confirm(self.pack.settings, request, form, count, reply)
             }
-            Request::Read(query) => self.read(query, reply),
+            Request::Read(query) => self.read(request, query, reply),
         }
     }
 
@@ -60,7 +62,7 @@ impl Board {
             Request::Refused(_) => self,
             Request::ClearEvents => self.clear_events(),
             Request::ClearStatistics => self.clear_statistics(),
-            Request::Write { from, count } => self.write(request, from, count),
+            Request::Write { form, count } => self.write(request, form, count),
             Request::Read(query) => self.marked(query),
         }
     }
@@ -78,11 +80,11 @@ impl Board {
         self.with_hire(self.hire.with_statistics(fresh))
     }
 
-    fn write(self, request: &[u8], from: u8, count: u8) -> Board
-        ensures { λ r. ⌜ r ≡ written self (now (request .entry)) from count ⌝ }
+    fn write(self, request: &[u8], form: Form, count: u8) -> Board
+        ensures { λ r. ⌜ r ≡ written self (pairsOf form (now (request .entry)) count) ⌝ }
     {
         let hire = self.hire;
-        let written = requests::written(self.pack.settings, request, from, count);
+        let written = requests::written(self.pack.settings, request, form, count);
         let pack = self.pack.with_settings(written.settings);
         Board { pack, hire }
     }
@@ -97,8 +99,8 @@ impl Board {
     }
 
     // A query is answered by its words.
-    fn read(self, query: Query, reply: &mut [u8]) -> u8
-        ensures { λ r. ⌜ Replied (cond (tooLong self query) 5 0) (queryReply self query) (now (reply .entry)) r (now (reply .exit)) ⌝ }
+    fn read(self, request: &[u8], query: Query, reply: &mut [u8]) -> u8
+        ensures { λ r. ⌜ Replied (cond (tooLong self query) 5 0) (queryReply self (now (request .entry)) query) (now (reply .entry)) r (now (reply .exit)) ⌝ }
     {
         let events = self.hire.events;
         let count = query.word_count(events.new_count(), events.kept_count(), self.pack.cells);
@@ -106,41 +108,46 @@ impl Board {
             wire::nack(reply, query.command(), 0x00);
             return 5;
         }
-        self.send(query, count, reply);
+        self.send(request, query, count, reply);
         0
     }
 
-    fn send(self, query: Query, count: u16, reply: &mut [u8])
+    fn send(self, request: &[u8], query: Query, count: u16, reply: &mut [u8])
         requires { ⌜ count ≤ 127 ⌝ }
-        ensures { λ _. ⌜ Filled (now (reply .entry)) (sealed (replyOf self query count)) (now (reply .exit)) ⌝ }
+        ensures { λ _. ⌜ Filled (now (reply .entry)) (sealed (replyOf self (now (request .entry)) query count)) (now (reply .exit)) ⌝ }
     {
         wire::begin(reply, query.command());
         let from = wire::put_length(reply, query.has_length(), (2 * count) as u8);
-        self.put_words(query, from, count, reply);
+        self.put_words(request, query, from, count, reply);
         wire::seal(reply, from + 2 * (count as usize));
     }
 
-    fn put_words(self, query: Query, from: usize, count: u16, reply: &mut [u8])
+    fn put_words(self, request: &[u8], query: Query, from: usize, count: u16, reply: &mut [u8])
         requires { ⌜ (from ≤ 3) × (count ≤ 127) ⌝ }
-        ensures { λ _. ⌜ Wrote (now (reply .entry)) from (words (word16 (highFirst query)) (wordOf self query) 0 count) (now (reply .exit)) ⌝ }
+        ensures { λ _. ⌜ Wrote (now (reply .entry)) from (words (word16 (highFirst query)) (wordOf self (now (request .entry)) query) 0 count) (now (reply .exit)) ⌝ }
     {
         let high_first = query.high_first();
         let mut i: u16 = 0;
         while i < count {
-            let word = self.word(query, i);
+            let word = self.word(request, query, i);
             wire::put_word(reply, from + 2 * (i as usize), high_first, word);
             i += 1;
         }
     }
 
     // The i-th word of a reply.
-    fn word(self, query: Query, i: u16) -> u16
+    fn word(self, request: &[u8], query: Query, i: u16) -> u16
         requires { ⌜ i ≤ 127 ⌝ }
-        ensures { λ r. ⌜ r ≡ wordOf self query i ⌝ }
+        ensures { λ r. ⌜ r ≡ wordOf self (now (request .entry)) query i ⌝ }
     {
         let lifetime = self.pack.clock.seconds;
         match query {
-            Query::Registers { at, count: _ } => self.value((at as u32) + (i as u32)),
+            Query::Registers {
+                command: _,
+                at,
+                count: _,
+            } => self.value((at as u32) + (i as u32)),
+            Query::Listed { count: _ } => self.listed_word(request, i),
             Query::Live {
                 command: _,
                 at,
@@ -155,6 +162,17 @@ impl Board {
                 .of_kind(kind)
                 .register(300 + i),
         }
+    }
+
+    // Of a list each address, and its register.
+    fn listed_word(self, request: &[u8], i: u16) -> u16
+        ensures { λ r. ⌜ r ≡ listedWord self (now (request .entry)) i ⌝ }
+    {
+        let address = requests::address_at(request, i / 2);
+        if i % 2 == 0 {
+            return address;
+        }
+        self.value(address as u32)
     }
 }
 
@@ -184,19 +202,36 @@ fn acknowledge(reply: &mut [u8]) -> u8
     0
 }
 
-// A write to settings that stand goes through their one judgement: address and RL, or a NACK.
-fn confirm(settings: Settings, request: &[u8], from: u8, count: u8, reply: &mut [u8]) -> u8
-    ensures { λ r. ⌜ Replied (writeNumber settings (now (request .entry)) from count) (writeReply settings (now (request .entry)) from count) (now (reply .entry)) r (now (reply .exit)) ⌝ }
+// A write to settings that stand goes through their one judgement: it is confirmed, or a NACK.
+fn confirm(settings: Settings, request: &[u8], form: Form, count: u8, reply: &mut [u8]) -> u8
+    ensures { λ r. ⌜ Replied (writeNumber settings (pairsOf form (now (request .entry)) count)) (writeReply settings (now (request .entry)) form count) (now (reply .entry)) r (now (reply .exit)) ⌝ }
 {
-    let verdict = requests::written(settings, request, from, count).verdict;
+    let verdict = requests::written(settings, request, form, count).verdict;
     let number = verdict.number();
     if number != 0 {
-        wire::nack(reply, 0x10, 0x00);
+        wire::nack(reply, form.command(), 0x00);
         return number;
     }
+    put_taken(request, form, count, reply);
+    number
+}
+
+// Address and RL of 0x10, or an ACK.
+fn put_taken(request: &[u8], form: Form, count: u8, reply: &mut [u8])
+    ensures { λ _. ⌜ Filled (now (reply .entry)) (sealed (takenReply form (now (request .entry)) count)) (now (reply .exit)) ⌝ }
+{
+    match form {
+        Form::Modbus => put_address(requests::write_address(request), count, reply),
+        Form::Block => wire::ack(reply, 0x0B),
+        Form::List => wire::ack(reply, 0x0D),
+    }
+}
+
+fn put_address(address: u16, count: u8, reply: &mut [u8])
+    ensures { λ _. ⌜ Filled (now (reply .entry)) (sealed (0xAA ∷ 0x10 ∷ be16 address ++ be16 count)) (now (reply .exit)) ⌝ }
+{
     wire::begin(reply, 0x10);
-    wire::put_word(reply, 2, true, 300 + (from as u16));
+    wire::put_word(reply, 2, true, address);
     wire::put_word(reply, 4, true, count as u16);
     wire::seal(reply, 6);
-    number
 }

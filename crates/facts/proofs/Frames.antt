@@ -32,7 +32,7 @@ written = ((refl, refl), refl, refl)
 
 -- ---- a board of ten cells that read those of 1.3.2 and the temperatures of 1.3.3
 
-abbrev read : Board
+abbrev pub read : Board
 read =
     tickOf (startBoard 10 2000)
     (38000 ∷ 38001 ∷ 38002 ∷ 38003 ∷ 38004 ∷ 38720 ∷ 38720 ∷ 38700 ∷ 38700 ∷ 38700 ∷ [])

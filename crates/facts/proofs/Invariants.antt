@@ -4,11 +4,11 @@
 -- have their machine types, which lists do not carry: where that is needed, `Typed` says it of cells and bytes, and `km-per-hour` of the
 -- pulses per km. Ends that the paper itself sets are met, and are not meant here: 48 events, the 65,535 of a count, the 2^32 - 1 of
 -- clock and distance, the byte of whole degrees. Assumes nothing.
-use mathlib.Core.Path.{_≡_, refl, sym, ap, _∙_, subst⁻¹}
+use mathlib.Core.Path.{_≡_, refl, sym, ap, _∙_, subst, subst⁻¹}
 use mathlib.Core.Bool.{Bool, true, false, _&&_, _||_, cond, and-false, false≢true}
 use mathlib.Core.List.{List, [], _∷_, _++_, map, reverse, reverseAux}
 use Prim.Native.Nat.{ℕ, zero, suc, _+_, _*_, _-_, _/_, _^_, _≤_, _<_, min, max}
-use native.Mathlib.Nat.{mul-pos, not-suc-le-zero}
+use native.Mathlib.Nat.{zero-add, add-zero, mul-pos, not-suc-le-zero}
 use native.Mathlib.Omega.{arith}
 use borrow.Author.Tests.{eqb-true, leb-true, le-leb, lt-leb, ltb-true, ltb-false, ne-eqb, not-false}
 use lib.Dec.{eqb, leb, ltb}
@@ -42,19 +42,20 @@ use Rattle.board.specs.declared.Shown.{Shown}
 use Rattle.board.specs.declared.Shown.the-variants.{Register, Nothing}
 use Rattle.board.specs.Registers.{shownAt}
 use Rattle.requests.specs.declared.Query.{Query}
+use Rattle.requests.specs.declared.Query.the-variants.{Registers, Listed, Live, NewEvents, AllEvents, Temperatures, Cells, SettingsOf}
 use Rattle.requests.specs.declared.Request.{Request}
 use Rattle.requests.specs.declared.Request.the-variants as request
 use Rattle.pack.specs.Pack.{usableCount}
 use Rattle.hire.specs.Hire.{noSensed}
 use Rattle.board.specs.Start.{startBoard}
-use Rattle.requests.specs.Requests.{inOneRange, requestOf, draftedOf, marks}
+use Rattle.requests.specs.Requests.{inOneRange, requestOf, addressAt, pairsOf}
 use Rattle.board.specs.Calls.{Call, tick, frame, handover, offer, fetch}
 use Rattle.board.specs.Behaviour.{afterIn, board}
 use Rattle.board.specs.Demands.{deeds}
 use Rattle.board.specs.Account.{Deed, took, wrote, row, forgets, hands, ticking, settingsAt, secondsAt, clockAt, momentOf, momentsAt, latchedAt, waitsAt, rememberedAt, sensedOf, sensedAt, windowAt, recordedNow, keptSince, newSince, eventsAt, heldAt, boardAt, deedsOf}
 use Rattle.board.proofs.Account.Deeds.{AfterOne, called-so}
 use Rattle.board.proofs.Account.Settings.{Fits, ranges, wait-some}
-use Rattle.requests.proofs.Sound.{registersOf, readsInRange, sound}
+use Rattle.requests.proofs.Sound.{namedBy, registerIn, inRange, readsInRange, each-shown, sound}
 use Rattle.board.proofs.Demands.Demand2.{account}
 
 -- ---- laws of lists
@@ -168,10 +169,10 @@ module _ (cells perKm : ℕ) (Q : Call → Type 0) (P : List ℕ × Readings →
 
         go : (c : Call) → Q c → So h → AfterOne cells perKm So no-tick h c
         go (tick given r) q p = λ e f. more (took given r) h (law (given, r) q (good cells perKm (given, r) e f), tt) p
-        go (frame s room) q p = λ from n e. more (wrote s from n) h tt p
+        go (frame s room) q p = λ f n e. more (wrote (pairsOf f s n)) h tt p
         go handover q p = tt
         go (offer bytes) q p = tt
-        go (fetch room) q p = λ from n e. more (wrote (heldAt h) from n) h tt p
+        go (fetch room) q p = λ f n e. more (wrote (pairsOf f (heldAt h) n)) h tt p
 
 -- ---- what an accepted tick has, on a board with that cell count
 
@@ -294,10 +295,10 @@ module _ (cells perKm : ℕ) where
 
       go : (c : Call) → AllFit h → AfterOne cells perKm AllFit no-moment h c
       go (tick given r) p = λ e f. (ranges cells perKm cs, p)
-      go (frame s room) p = λ from n e. p
+      go (frame s room) p = λ f n e. p
       go handover p = tt
       go (offer bytes) p = tt
-      go (fetch room) p = λ from n e. p
+      go (fetch room) p = λ f n e. p
 
 moments-short : (cells perKm : ℕ) (cs : List Call) → All Short (momentsAt (deedsOf cells perKm cs))
 moments-short cells perKm cs = all-so Short Fitting (λ m fits. setting-held (m .settings) fits .0) (momentsAt (deedsOf cells perKm cs)) (moments-fit cells perKm cs)
@@ -512,6 +513,16 @@ shown-in b at n i h l = go (leb (at + n) 56) (leb 100 at) (leb (at + n) 118) (le
     go false false d true false e₁ e₂ e₃ e₄ e₅ k = absurd (false≢true k)
     go false false d false g e₁ e₂ e₃ e₄ e₅ k = absurd (false≢true k)
 
-pub registers-shown : (b : Board) (s : List ℕ) (q : Query) (i : ℕ) → requestOf s ≡ request.Read q → i < registersOf q .1 → Shows b (registersOf q .0 + i)
-unfolding readsInRange
-registers-shown b s q i e l = shown-in b (registersOf q .0) (registersOf q .1) i (rw e at (sound s .in-range)) l
+pub registers-shown : (b : Board) (s : List ℕ) (q : Query) (i : ℕ) → requestOf s ≡ request.Read q → i < namedBy q → Shows b (registerIn s q i)
+unfolding readsInRange inRange namedBy registerIn
+registers-shown b s q i e l = go q (rw e at (sound s .in-range)) l
+  where
+    go : (q : Query) → inRange s q ≡ true → i < namedBy q → Shows b (registerIn s q i)
+    go (Registers command at n) h l = shown-in b at n i h l
+    go (Listed n) h l = subst (Shows b) (add-zero (addressAt s i)) (shown-in b (addressAt s i) 1 0 (each-shown s n i h l) (omega arith))
+    go (Live command at n) h l = shown-in b at n i h l
+    go NewEvents h l = absurd (omega arith)
+    go AllEvents h l = absurd (omega arith)
+    go Temperatures h l = absurd (omega arith)
+    go Cells h l = subst (Shows b) (zero-add i) (shown-in b 0 16 i h l)
+    go (SettingsOf kind n) h l = absurd (omega arith)

@@ -1,5 +1,6 @@
 pub mod Ticks
 pub mod Frames
+pub mod QuickFrames
 pub mod BoundaryTable
 pub mod Calls
 pub mod WrongBoards

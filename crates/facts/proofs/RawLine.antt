@@ -24,7 +24,7 @@ use Rattle.receiver.proofs.Cutting as cutting
 use Rattle.requests.specs.declared.Refusal.the-variants.{Foreign, Damaged, Against}
 use Rattle.requests.specs.declared.Request.{Request}
 use Rattle.requests.specs.declared.Request.the-variants as request
-use Rattle.requests.specs.Requests.{refusalNumber, requestOf, writtenTo}
+use Rattle.requests.specs.Requests.{refusalNumber, requestOf, pairsOf, writtenTo}
 use Rattle.wire.specs.Wire.{padded}
 use Rattle.board.specs.declared.Board.{Board}
 use Rattle.board.specs.State.{usable, withReceiver}
@@ -92,7 +92,7 @@ is-reply b s (request.Refused (Damaged command)) = refl
 is-reply b s (request.Refused (Against command)) = refl
 is-reply b s request.ClearEvents = refl
 is-reply b s request.ClearStatistics = refl
-is-reply b s (request.Write from n) = go (writtenTo (b .pack .settings) s from n .verdict)
+is-reply b s (request.Write f n) = go (writtenTo (b .pack .settings) (pairsOf f s n) .verdict)
   where
     go : (v : Verdict) → isReply (settings.numberOf v) ≡ true
     go Taken = refl
@@ -110,7 +110,7 @@ unfolding changedBy
 changed-usable b s (request.Refused refusal) = refl
 changed-usable b s request.ClearEvents = refl
 changed-usable b s request.ClearStatistics = refl
-changed-usable b s (request.Write from n) = refl
+changed-usable b s (request.Write f n) = refl
 changed-usable b s (request.Read q) = refl
 
 pub frame-usable : (b : Board) (s : List ℕ) (room : ℕ) → usable (frameBoard b s room) ≡ usable b

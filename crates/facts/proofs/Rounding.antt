@@ -12,13 +12,13 @@ use borrow.Author.Tests.{ne-eqb, eqb-true, eqb-false, leb-true}
 use lib.Dec.{eqb, leb, ltb}
 use lib.ListN.{length, take, drop, length-drop}
 use lib.Seq.{take-all, take-append-le, drop-append-le, drop-at}
-use Rattle.wire.specs.Wire.{le16, be16, words, sealed, padded, nackOf}
+use Rattle.wire.specs.Wire.{le16, word16, words, sealed, padded, nackOf}
 use Rattle.requests.specs.declared.Query.{Query}
-use Rattle.requests.specs.declared.Query.the-variants.{Registers, Live, NewEvents, AllEvents, Temperatures, Cells, SettingsOf}
+use Rattle.requests.specs.declared.Query.the-variants.{Registers, Listed, Live, NewEvents, AllEvents, Temperatures, Cells, SettingsOf}
 use Rattle.requests.specs.declared.Request.{Request}
 use Rattle.requests.specs.declared.Request.the-variants as request
-use Rattle.requests.specs.Requests.{commandOf, requestOf}
-use Rattle.requests.proofs.Sound.{registersOf}
+use Rattle.requests.specs.Requests.{addressAt, commandOf, requestOf}
+use Rattle.requests.proofs.Sound.{namedBy, registerIn}
 use Rattle.pack.specs.declared.Pack.{Pack}
 use Rattle.pack.specs.Pack.{usableCount}
 use Rattle.hire.specs.Hire.{newHire}
@@ -36,7 +36,7 @@ use Rattle.board.specs.Account.{boardAt, deedsOf}
 use Rattle.board.specs.Demands.{told}
 use Rattle.board.proofs.Demands.Demand2.{account, as-told}
 use Rattle.wire.proofs.Writing.{words-length}
-use Rattle.facts.proofs.ReadsBack.{words-same}
+use Rattle.facts.proofs.ReadsBack.{words-same, listed-same}
 
 -- ---- the board that rounds down
 
@@ -49,8 +49,8 @@ unfoldable pub requestDown : Board → List ℕ → Request → List ℕ
 requestDown b s (request.Refused refusal) = requestReply b s (request.Refused refusal)
 requestDown b s request.ClearEvents = requestReply b s request.ClearEvents
 requestDown b s request.ClearStatistics = requestReply b s request.ClearStatistics
-requestDown b s (request.Write from n) = requestReply b s (request.Write from n)
-requestDown b s (request.Read q) = sealed (cond (tooLong b q) (nackOf (commandOf q) 0x00) (bodyBy (valueDown b) b q))
+requestDown b s (request.Write f n) = requestReply b s (request.Write f n)
+requestDown b s (request.Read q) = sealed (cond (tooLong b q) (nackOf (commandOf q) 0x00) (bodyBy (valueDown b) b s q))
 
 unfoldable pub replyDown : Board → List ℕ → ℕ → List ℕ
 replyDown b s room = padded room (cond (usable b) (cond (ltb room 259) [] (requestDown b s (requestOf s))) [])
@@ -153,24 +153,27 @@ other-words b bytes at n i two l lowest highest =
     word-at bytes (valueDown b) at n i two l ∙ ap bytes (same-value b (at + i) lowest highest) ∙ sym (word-at bytes (valueAt b) at n i two l)
 
 -- and the whole reply to a query that names neither, to the byte
-abbrev Neither : Query → Type 0
-Neither q = (i : ℕ) → i < registersOf q .1 → (registersOf q .0 + i ≡ 40 → ⊥) × (registersOf q .0 + i ≡ 41 → ⊥)
+abbrev Neither : List ℕ → Query → Type 0
+Neither s q = (i : ℕ) → i < namedBy q → (registerIn s q i ≡ 40 → ⊥) × (registerIn s q i ≡ 41 → ⊥)
 
-same-body : (b : Board) (q : Query) → b .pack .cells ≤ 16 → Neither q → bodyBy (valueDown b) b q ≡ bodyBy (valueAt b) b q
-unfolding bodyBy registersOf
-same-body b (Registers at n) few away =
-    ap (λ (l : List ℕ). 0xAA ∷ 0x03 ∷ 2 * n ∷ l) (words-same be16 (valueDown b) (valueAt b) at n (λ i k. same-value b (at + i) (away i k .0) (away i k .1)))
-same-body b (Live command at n) few away =
+same-body : (b : Board) (s : List ℕ) (q : Query) → b .pack .cells ≤ 16 → Neither s q → bodyBy (valueDown b) b s q ≡ bodyBy (valueAt b) b s q
+unfolding bodyBy namedBy registerIn
+same-body b s (Registers command at n) few away =
+    ap (λ (l : List ℕ). 0xAA ∷ command ∷ 2 * n ∷ l) (words-same (word16 (eqb command 0x03)) (valueDown b) (valueAt b) at n (λ i k. same-value b (at + i) (away i k .0) (away i k .1)))
+same-body b s (Listed n) few away =
+    ap (λ (l : List ℕ). 0xAA ∷ 0x09 ∷ 4 * n ∷ l)
+    (listed-same (valueDown b) (valueAt b) (addressAt s) n (λ i k. same-value b (addressAt s i) (away i k .0) (away i k .1)))
+same-body b s (Live command at n) few away =
     ap (λ (l : List ℕ). 0xAA ∷ command ∷ l) (words-same le16 (valueDown b) (valueAt b) at n (λ i k. same-value b (at + i) (away i k .0) (away i k .1)))
-same-body b NewEvents few away = refl
-same-body b AllEvents few away = refl
-same-body b Temperatures few away = refl
-same-body b Cells few away =
+same-body b s NewEvents few away = refl
+same-body b s AllEvents few away = refl
+same-body b s Temperatures few away = refl
+same-body b s Cells few away =
     ap (λ (l : List ℕ). 0xAA ∷ 0x1C ∷ 2 * (b .pack .cells) ∷ l)
     (words-same le16 (valueDown b) (valueAt b) 0 (b .pack .cells) (λ i k. same-value b (0 + i) (λ e. omega arith) (λ e. omega arith)))
-same-body b (SettingsOf kind n) few away = refl
+same-body b s (SettingsOf kind n) few away = refl
 
-same-reply-of : (b : Board) (s : List ℕ) (room : ℕ) → ((q : Query) → requestOf s ≡ request.Read q → Neither q) → replyDown b s room ≡ frameReply b s room
+same-reply-of : (b : Board) (s : List ℕ) (room : ℕ) → ((q : Query) → requestOf s ≡ request.Read q → Neither s q) → replyDown b s room ≡ frameReply b s room
 unfolding replyDown frameReply requestDown requestReply queryReply
 same-reply-of b s room away = go (leb 4 (b .pack .cells)) (leb (b .pack .cells) 16) refl (ltb room 259)
   where
@@ -178,8 +181,8 @@ same-reply-of b s room away = go (leb 4 (b .pack .cells)) (leb (b .pack .cells) 
     same few (request.Refused refusal) e = refl
     same few request.ClearEvents e = refl
     same few request.ClearStatistics e = refl
-    same few (request.Write from n) e = refl
-    same few (request.Read q) e = ap (λ (body : List ℕ). sealed (cond (tooLong b q) (nackOf (commandOf q) 0x00) body)) (same-body b q few (away q e))
+    same few (request.Write f n) e = refl
+    same few (request.Read q) e = ap (λ (body : List ℕ). sealed (cond (tooLong b q) (nackOf (commandOf q) 0x00) body)) (same-body b s q few (away q e))
 
     go : (u v : Bool) → leb (b .pack .cells) 16 ≡ v → (t : Bool)
         → padded room (cond (u && v) (cond t [] (requestDown b s (requestOf s))) []) ≡ padded room (cond (u && v) (cond t [] (requestReply b s (requestOf s))) [])
@@ -188,14 +191,14 @@ same-reply-of b s room away = go (leb 4 (b .pack .cells)) (leb (b .pack .cells) 
     go true true e true = refl
     go true true e false = ap (padded room) (same (leb-true (b .pack .cells) 16 e) (requestOf s) refl)
 
-pub same-reply : (cells perKm : ℕ) (cs : List Call) (s : List ℕ) (room : ℕ) → ((q : Query) → requestOf s ≡ request.Read q → Neither q)
+pub same-reply : (cells perKm : ℕ) (cs : List Call) (s : List ℕ) (room : ℕ) → ((q : Query) → requestOf s ≡ request.Read q → Neither s q)
     → board .step (ours cells perKm cs) (frame s room) .1 .buffer ≡ roundingDown .step (theirs cells perKm cs) (frame s room) .1 .buffer
 unfolding step bufferDown
 same-reply cells perKm cs s room away =
     sym (same-reply-of (ours cells perKm cs) s room away) ∙ ap (λ (b : Board). replyDown b s room) (same-state cells perKm cs)
 
 -- by a fetch too
-pub same-fetched : (cells perKm : ℕ) (cs : List Call) (room : ℕ) → ((q : Query) → requestOf (heldIn (ours cells perKm cs)) ≡ request.Read q → Neither q)
+pub same-fetched : (cells perKm : ℕ) (cs : List Call) (room : ℕ) → ((q : Query) → requestOf (heldIn (ours cells perKm cs)) ≡ request.Read q → Neither (heldIn (ours cells perKm cs)) q)
     → board .step (ours cells perKm cs) (fetch room) .1 .buffer ≡ roundingDown .step (theirs cells perKm cs) (fetch room) .1 .buffer
 unfolding step bufferDown fetchReply fetchDown
 same-fetched cells perKm cs room away =

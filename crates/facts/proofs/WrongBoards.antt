@@ -247,7 +247,7 @@ typed = ((omega arith, (omega arith, (omega arith, (omega arith, (omega arith, (
 pub dropping-fails : ¬ ReadsBack dropping
 unfolding accounted
 dropping-fails h =
-    let z : _≡_ {A = ℕ} 0x0B 0x03 = ap (λ (l : List ℕ). getD l 3 0) (h .block 4 2000 (to-800 ∷ []) typed (0xAA ∷ 0x03 ∷ 0x01 ∷ 0x3C ∷ 0x00 ∷ 0x01 ∷ 0x5C ∷ 0x21 ∷ []) 259 316 1 refl (omega arith) (omega arith) refl) in
+    let z : _≡_ {A = ℕ} 0x0B 0x03 = ap (λ (l : List ℕ). getD l 3 0) (h .block 4 2000 (to-800 ∷ []) typed (0xAA ∷ 0x03 ∷ 0x01 ∷ 0x3C ∷ 0x00 ∷ 0x01 ∷ 0x5C ∷ 0x21 ∷ []) 259 0x03 316 1 refl (omega arith) (omega arith) refl) in
     omega arith
 
 pub factory-is-sent : ¬ ReadsBack dropping

@@ -3,9 +3,9 @@
 use mathlib.Core.Path.{_≡_, refl, sym, ap, _∙_}
 use mathlib.Core.Bool.{Bool, true, false, _&&_, cond}
 use mathlib.Core.List.{List, [], _∷_, _++_, append-nil}
-use Prim.Native.Nat.{ℕ, zero, suc, _+_, _-_, _*_, _≤_, min}
+use Prim.Native.Nat.{ℕ, zero, suc, _+_, _-_, _*_, _/_, _≤_, min}
 use native.Mathlib.Omega.{arith}
-use borrow.Author.Tests.{le-ltb, ltb-false, eqb-true}
+use borrow.Author.Tests.{le-ltb, eq-eqb, eqb-true}
 use lib.Dec.{eqb, leb, ltb}
 use lib.ListN.{length, take, getD, replicate, length-append, length-replicate}
 use lib.Seq.{take-append-add}
@@ -13,26 +13,29 @@ use Rattle.crc.specs.Crc.{crcOf}
 use Rattle.events.specs.Events.{newCount, keptCount, keptOf, newOf, eventLongs}
 use Rattle.settings.specs.Settings as settings
 use Rattle.requests.specs.declared.Query.{Query}
-use Rattle.requests.specs.declared.Query.the-variants.{Registers, Live, NewEvents, AllEvents, Temperatures, Cells, SettingsOf}
+use Rattle.requests.specs.declared.Query.the-variants.{Registers, Listed, Live, NewEvents, AllEvents, Temperatures, Cells, SettingsOf}
 use Rattle.requests.specs.declared.Command.{Command}
-use Rattle.requests.specs.declared.Command.the-variants.{Clear, Block, Write, Ask, AskSettings, Unknown}
+use Rattle.requests.specs.declared.Command.the-variants.{Clear, Block, QuickBlock, AskList, Write, Ask, AskSettings, Unknown}
 use Rattle.requests.specs.declared.Expected.{Expected}
+use Rattle.requests.specs.declared.Form.{Form}
+use Rattle.requests.specs.declared.Form.the-variants as form
 use Rattle.requests.specs.declared.Refusal.the-variants.{Foreign, Damaged, Against}
 use Rattle.requests.specs.declared.Request.{Request}
 use Rattle.requests.specs.declared.Request.the-variants as request
-use Rattle.requests.specs.Requests.{be16At, le16At, expectedOf, lengthBy, between, inOneRange, against, clearOf, blockOf, writeOf, settingsOf, fieldsOf, askedOf, requestOf, commandOf}
-use Rattle.wire.specs.Wire.{be16, le16, le32, words, sealed, padded, nackOf, ackOf}
+use Rattle.requests.specs.Requests.{be16At, le16At, expectedOf, expectedBy, between, inOneRange, against, clearOf, blockOf, addressAt, allShown, listOf, pairsOf, countOf, wellCounted, allSettings, writeCommand, writeOf, settingsOf, fieldsOf, askedOf, requestOf, commandOf}
+use Rattle.wire.specs.Wire.{be16, le16, le32, word16, words, sealed, padded, nackOf, ackOf}
 use Rattle.wire.proofs.Writing.{sealed-length, words-length}
 use Rattle.board.specs.declared.Board.{Board}
-use Rattle.board.specs.Frames.{valueAt, bodyBy, bodyOf, payloadOf, tooLong, writeNumber, refusalReply, writeReply, queryReply, requestReply}
+use Rattle.board.specs.Frames.{valueAt, bodyBy, bodyOf, payloadOf, tooLong, writeNumber, refusalReply, takenReply, writeReply, queryReply, requestReply}
 use Rattle.board.proofs.Replies.{reply-length}
 use Rattle.port.specs.Port as port
 use Rattle.port.specs.Port.{lengthIn}
 
--- ---- 0x14 to 0x19 send as many registers as their command says
+-- ---- the commands of blocks have a PL, and 0x14 to 0x19 send as many registers as their command says
 
 fits : Query → ℕ → Bool
-fits (Registers at n) pl = true
+fits (Registers command at n) pl = eqb (port.lengthBy command pl) (5 + pl)
+fits (Listed n) pl = true
 fits (Live command at n) pl = eqb (port.lengthBy command pl) (4 + 2 * n)
 fits NewEvents pl = true
 fits AllEvents pl = true
@@ -43,7 +46,9 @@ fits (SettingsOf kind n) pl = true
 asks : Command → ℕ → Bool
 asks Clear pl = true
 asks Block pl = true
-asks Write pl = true
+asks QuickBlock pl = true
+asks AskList pl = true
+asks (Write f) pl = true
 asks (Ask q) pl = fits q pl
 asks AskSettings pl = true
 asks Unknown pl = true
@@ -52,7 +57,7 @@ reads : Request → ℕ → Bool
 reads (request.Refused refusal) pl = true
 reads request.ClearEvents pl = true
 reads request.ClearStatistics pl = true
-reads (request.Write from n) pl = true
+reads (request.Write f n) pl = true
 reads (request.Read q) pl = fits q pl
 
 record Asks (pl : ℕ) (e : Expected) : Type 0 where
@@ -65,11 +70,15 @@ arm : (t : Bool) {x y : Expected} {pl : ℕ} → Asks pl x → Asks pl y → Ask
 arm true p q = p
 arm false p q = q
 
-expected : (c n pl : ℕ) → Asks pl (expectedOf c n)
+expected : (c third seventh pl : ℕ) → Asks pl (expectedOf c third seventh)
 unfolding expectedOf asks fits port.lengthBy
-expected c n pl =
+expected c third seventh pl =
     arm (eqb c 0x02) (record { asks = refl })
     (arm (eqb c 0x03) (record { asks = refl })
+    (arm (eqb c 0x07) (record { asks = refl })
+    (arm (eqb c 0x09) (record { asks = refl })
+    (arm (eqb c 0x0B) (record { asks = refl })
+    (arm (eqb c 0x0D) (record { asks = refl })
     (arm (eqb c 0x10) (record { asks = refl })
     (arm (eqb c 0x11) (record { asks = refl })
     (arm (eqb c 0x12) (record { asks = refl })
@@ -82,18 +91,22 @@ expected c n pl =
     (arm (eqb c 0x1B) (record { asks = refl })
     (arm (eqb c 0x1C) (record { asks = refl })
     (arm (eqb c 0x1D) (record { asks = refl })
-    (record { asks = refl }))))))))))))))
+    (record { asks = refl }))))))))))))))))))
 
 either : (t : Bool) {x y : Request} {pl : ℕ} → Reads pl x → Reads pl y → Reads pl (cond t x y)
 either true p q = p
 either false p q = q
 
 fields : (c : ℕ) (s : List ℕ) (pl : ℕ) (k : Command) → asks k pl ≡ true → Reads pl (fieldsOf k c s)
-unfolding reads fits asks fieldsOf clearOf blockOf writeOf settingsOf
+unfolding reads fits asks fieldsOf clearOf blockOf listOf writeOf settingsOf port.lengthBy
 fields c s pl Clear e = either (eqb (getD s 2 0) 1) (record { reads = refl }) (either (eqb (getD s 2 0) 2) (record { reads = refl }) (record { reads = refl }))
-fields c s pl Block e = either (eqb (getD s 4 0) 0 && between 1 127 (getD s 5 0) && inOneRange (be16At s 2) (getD s 5 0)) (record { reads = refl }) (record { reads = refl })
-fields c s pl Write e =
-    either (eqb (getD s 4 0) 0 && between 1 100 (getD s 5 0) && eqb (getD s 6 0) (2 * getD s 5 0) && leb 300 (be16At s 2) && leb (be16At s 2 + getD s 5 0) 400) (record { reads = refl }) (record { reads = refl })
+fields c s pl Block e =
+    either (eqb (getD s 4 0) 0 && between 1 127 (getD s 5 0) && inOneRange (be16At s 2) (getD s 5 0)) (record { reads = eq-eqb (5 + pl) (5 + pl) refl }) (record { reads = refl })
+fields c s pl QuickBlock e =
+    either (eqb 0 0 && between 1 127 (getD s 2 0) && inOneRange (le16At s 3) (getD s 2 0)) (record { reads = eq-eqb (5 + pl) (5 + pl) refl }) (record { reads = refl })
+fields c s pl AskList e =
+    either (eqb (getD s 2 0) (2 * (getD s 2 0 / 2)) && between 1 63 (getD s 2 0 / 2) && allShown s (getD s 2 0 / 2)) (record { reads = refl }) (record { reads = refl })
+fields c s pl (Write f) e = either (wellCounted f s (countOf f s) && allSettings (pairsOf f s (countOf f s))) (record { reads = refl }) (record { reads = refl })
 fields c s pl (Ask q) e = record { reads = e }
 fields c s pl AskSettings e = either (between 1 4 (getD s 2 0) && eqb (getD s 3 0) 0 && between 1 100 (getD s 4 0)) (record { reads = refl }) (record { reads = refl })
 fields c s pl Unknown e = record { reads = refl }
@@ -105,7 +118,7 @@ asked s pl =
     either (ltb (length s) 4) (record { reads = refl })
     (either (eqb (getD s 0 0) 0xAA)
     (either (eqb (crcOf (take (length s - 2) s)) (le16At s (length s - 2)))
-    (either (eqb (length s) (lengthBy c s)) (fields c s pl (expectedOf c (getD s 6 0) .command) (expected c (getD s 6 0) pl .asks)) (record { reads = refl }))
+    (either (eqb (length s) (expectedBy c s .length)) (fields c s pl (expectedBy c s .command) (expected c (getD s 2 0) (getD s 6 0) pl .asks)) (record { reads = refl }))
     (record { reads = refl }))
     (record { reads = refl }))
 
@@ -158,10 +171,16 @@ module _ (room : ℕ) (large : 259 ≤ room) where
   unfolding sealed padded
   counted c n ys says e h = headed c (n ∷ ys) h (says n ∙ omega (arith, e))
 
-  module _ (b : Board) where
-    body : (q : Query) → ((pl : ℕ) → fits q pl ≡ true) → length (sealed (bodyOf b q)) ≤ 259 → Exact room (sealed (bodyOf b q))
+  module _ (b : Board) (s : List ℕ) where
+    body : (q : Query) → ((pl : ℕ) → fits q pl ≡ true) → length (sealed (bodyOf b s q)) ≤ 259 → Exact room (sealed (bodyOf b s q))
     unfolding bodyBy fits port.lengthBy
-    body (Registers at n) f h = counted 0x03 (2 * n) _ (λ pl. refl) (words-length 2 be16 (valueAt b) at n (λ w. refl)) h
+    body (Registers command at n) f h =
+        counted command (2 * n) _ (λ pl. eqb-true _ (5 + pl) (f pl)) (words-length 2 (word16 (eqb command 0x03)) (valueAt b) at n (two (eqb command 0x03))) h
+      where
+        two : (t : Bool) (w : ℕ) → length (word16 t w) ≡ 2
+        two true w = refl
+        two false w = refl
+    body (Listed n) f h = counted 0x09 (4 * n) _ (λ pl. refl) (words-length 4 (λ at. le16 at ++ le16 (valueAt b at)) (addressAt s) 0 n (λ w. refl)) h
     body (Live command at n) f h =
         headed command _ h (eqb-true _ (4 + 2 * n) (f _) ∙ ap (λ (k : ℕ). 4 + k) (sym (words-length 2 le16 (valueAt b) at n (λ w. refl))))
     body NewEvents f h =
@@ -179,22 +198,26 @@ module _ (room : ℕ) (large : 259 ≤ room) where
     unfolding port.lengthBy
     nack command error h = headed 0x00 (command ∷ error ∷ []) h refl
 
-    every : (s : List ℕ) (q : Request) → ((pl : ℕ) → reads q pl ≡ true) → length (requestReply b s q) ≤ 259 → Exact room (requestReply b s q)
-    unfolding requestReply refusalReply writeReply queryReply reads port.lengthBy
-    every s (request.Refused Foreign) f h = none room
-    every s (request.Refused (Damaged command)) f h = nack command 0x01 h
-    every s (request.Refused (Against command)) f h = nack command 0x00 h
-    every s request.ClearEvents f h = headed 0x01 (0x02 ∷ []) h refl
-    every s request.ClearStatistics f h = headed 0x01 (0x02 ∷ []) h refl
-    every s (request.Write from n) f h = go (eqb (writeNumber (b .pack .settings) s from n) 0) h
+    every : (q : Request) → ((pl : ℕ) → reads q pl ≡ true) → length (requestReply b s q) ≤ 259 → Exact room (requestReply b s q)
+    unfolding requestReply refusalReply takenReply writeReply queryReply reads port.lengthBy
+    every (request.Refused Foreign) f h = none room
+    every (request.Refused (Damaged command)) f h = nack command 0x01 h
+    every (request.Refused (Against command)) f h = nack command 0x00 h
+    every request.ClearEvents f h = headed 0x01 (0x02 ∷ []) h refl
+    every request.ClearStatistics f h = headed 0x01 (0x02 ∷ []) h refl
+    every (request.Write f n) g h = go (eqb (writeNumber (b .pack .settings) (pairsOf f s n)) 0) h
       where
-        go : (t : Bool) → length (sealed (cond t (0xAA ∷ 0x10 ∷ be16 (300 + from) ++ be16 n) (nackOf 0x10 0x00))) ≤ 259
-            → Exact room (sealed (cond t (0xAA ∷ 0x10 ∷ be16 (300 + from) ++ be16 n) (nackOf 0x10 0x00)))
-        go true h = headed 0x10 (be16 (300 + from) ++ be16 n) h refl
-        go false h = nack 0x10 0x00 h
-    every s (request.Read q) f h = go (tooLong b q) h
+        taken : (f : Form) → length (sealed (takenReply f s n)) ≤ 259 → Exact room (sealed (takenReply f s n))
+        taken form.Modbus h = headed 0x10 (be16 (be16At s 2) ++ be16 n) h refl
+        taken form.Block h = headed 0x01 (0x0B ∷ []) h refl
+        taken form.List h = headed 0x01 (0x0D ∷ []) h refl
+
+        go : (t : Bool) → length (sealed (cond t (takenReply f s n) (nackOf (writeCommand f) 0x00))) ≤ 259 → Exact room (sealed (cond t (takenReply f s n) (nackOf (writeCommand f) 0x00)))
+        go true h = taken f h
+        go false h = nack (writeCommand f) 0x00 h
+    every (request.Read q) f h = go (tooLong b q) h
       where
-        go : (t : Bool) → length (sealed (cond t (nackOf (commandOf q) 0x00) (bodyOf b q))) ≤ 259 → Exact room (sealed (cond t (nackOf (commandOf q) 0x00) (bodyOf b q)))
+        go : (t : Bool) → length (sealed (cond t (nackOf (commandOf q) 0x00) (bodyOf b s q))) ≤ 259 → Exact room (sealed (cond t (nackOf (commandOf q) 0x00) (bodyOf b s q)))
         go true h = nack (commandOf q) 0x00 h
         go false h = body q f h
 

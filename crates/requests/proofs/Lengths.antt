@@ -11,8 +11,8 @@ use lib.ListN.{length, getD, List·getD-append}
 use borrow.Author.Tests.{ltb-true, ltb-false, lt-leb}
 use Rattle.requests.specs.declared.Command.{Command}
 use Rattle.requests.specs.declared.Expected.{Expected}
-use Rattle.requests.specs.Requests.{expect, expectedOf, lengthOf}
-use Rattle.requests.proofs.Sound.{long}
+use Rattle.requests.specs.Requests.{expect, expectedOf, expectedBy, lengthOf}
+use Rattle.requests.proofs.Sound.{least}
 
 -- two lengths of a request of which k bytes have come: they are equal, or neither is reached
 data Agree (k m n : ℕ) : Type 0 where
@@ -41,15 +41,22 @@ either : (t : Bool) {x y : List ℕ → Expected} → Readable x → Readable y 
 either true f g = f
 either false f g = g
 
-expected : (c : ℕ) → Readable (λ bytes. expectedOf c (getD bytes 6 0))
+expected : (c : ℕ) → Readable (expectedBy c)
 unfolding expectedOf
-expected c = either (eqb c 0x02) fixed (either (eqb c 0x03) fixed (either (eqb c 0x10) (counted 9 6 (omega arith)) fixed))
+expected c =
+    either (eqb c 0x02) fixed
+    (either (eqb c 0x03) fixed
+    (either (eqb c 0x07) fixed
+    (either (eqb c 0x09) (counted 5 2 (omega arith))
+    (either (eqb c 0x0B) (counted 5 2 (omega arith))
+    (either (eqb c 0x0D) (counted 5 2 (omega arith))
+    (either (eqb c 0x10) (counted 9 6 (omega arith)) fixed))))))
 
 -- ---- of any bytes: until the second has come, fewer than 4 have
 
 pub least-of : (bytes : List ℕ) → 4 ≤ lengthOf bytes
 unfolding lengthOf
-least-of bytes = long (getD bytes 1 0) (getD bytes 6 0) .0
+least-of bytes = least (getD bytes 1 0) (getD bytes 2 0) (getD bytes 6 0)
 
 agree-of : (held bs : List ℕ) → Agree (length held) (lengthOf held) (lengthOf (held ++ bs))
 unfolding lengthOf

@@ -1,24 +1,25 @@
 -- What holds of a request whatever its bytes: the command that it is refused or answered with is its second byte, the registers that it
--- reads lie in one range, and its length is 4 to 9 + PL. By the tests in the definition's order.
+-- reads lie in the three ranges, and its length is 4 to 264. By the tests in the definition's order.
 -- Assumes nothing.
-use mathlib.Core.Path.{_≡_, refl, sym, _∙_}
-use mathlib.Core.Bool.{Bool, true, false, _&&_, cond, and-eq-true-iff}
-use mathlib.Core.List.{List}
-use Prim.Native.Nat.{ℕ, _+_, _-_, _*_, _≤_}
+use mathlib.Core.Path.{_≡_, refl, sym, ap, _∙_}
+use mathlib.Core.Bool.{Bool, true, false, _&&_, _||_, cond, and-eq-true-iff, false≢true}
+use mathlib.Core.List.{List, []}
+use Prim.Native.Nat.{ℕ, zero, suc, _+_, _-_, _*_, _/_, _≤_, _<_}
 use native.Mathlib.Omega.{arith}
-use borrow.Author.Tests.{eqb-true}
+use borrow.Author.Tests.{eqb-true, eqb-false, leb-true, le-leb, lt-leb}
 use lib.Dec.{eqb, leb, ltb}
 use lib.ListN.{length, take, getD}
 use Rattle.crc.specs.Crc.{crcOf}
 use Rattle.requests.specs.declared.Query.{Query}
-use Rattle.requests.specs.declared.Query.the-variants.{Registers, Live, NewEvents, AllEvents, Temperatures, Cells, SettingsOf}
+use Rattle.requests.specs.declared.Query.the-variants.{Registers, Listed, Live, NewEvents, AllEvents, Temperatures, Cells, SettingsOf}
+use Rattle.requests.specs.declared.Form.the-variants as form
 use Rattle.requests.specs.declared.Command.{Command}
-use Rattle.requests.specs.declared.Command.the-variants.{Clear, Block, Write, Ask, AskSettings, Unknown}
+use Rattle.requests.specs.declared.Command.the-variants.{Clear, Block, QuickBlock, AskList, Write, Ask, AskSettings, Unknown}
 use Rattle.requests.specs.declared.Expected.{Expected}
 use Rattle.requests.specs.declared.Refusal.the-variants.{Foreign, Damaged, Against}
 use Rattle.requests.specs.declared.Request.{Request}
 use Rattle.requests.specs.declared.Request.the-variants as request
-use Rattle.requests.specs.Requests.{be16At, le16At, expect, expectedOf, lengthBy, inOneRange, between, against, clearOf, blockOf, writeOf, settingsOf, fieldsOf, askedOf, requestOf, commandOf}
+use Rattle.requests.specs.Requests.{be16At, le16At, expect, expectedOf, expectedBy, inOneRange, between, against, clearOf, blockOf, addressAt, allShown, listOf, pairsOf, countOf, wellCounted, allSettings, writeCommand, writeOf, settingsOf, fieldsOf, askedOf, requestOf, commandOf}
 
 -- the command that a request is refused or answered with; c where there is none
 unfoldable pub commandIn : ℕ → Request → ℕ
@@ -27,136 +28,210 @@ commandIn c (request.Refused (Damaged command)) = command
 commandIn c (request.Refused (Against command)) = command
 commandIn c request.ClearEvents = c
 commandIn c request.ClearStatistics = c
-commandIn c (request.Write from n) = 0x10
+commandIn c (request.Write f n) = writeCommand f
 commandIn c (request.Read q) = commandOf q
 
--- the registers that a query may name: the first, and how many; the cells are 0 to 15
-unfoldable pub registersOf : Query → ℕ × ℕ
-registersOf (Registers at n) = (at, n)
-registersOf (Live command at n) = (at, n)
-registersOf NewEvents = (0, 0)
-registersOf AllEvents = (0, 0)
-registersOf Temperatures = (0, 0)
-registersOf Cells = (0, 16)
-registersOf (SettingsOf kind n) = (0, 0)
+-- the registers that a query of those bytes names: how many, and the i-th; the cells are 0 to 15
+unfoldable pub namedBy : Query → ℕ
+namedBy (Registers command at n) = n
+namedBy (Listed n) = n
+namedBy (Live command at n) = n
+namedBy NewEvents = 0
+namedBy AllEvents = 0
+namedBy Temperatures = 0
+namedBy Cells = 16
+namedBy (SettingsOf kind n) = 0
 
-abbrev pub inRange : Query → Bool
-inRange q = inOneRange (registersOf q .0) (registersOf q .1)
+unfoldable pub registerIn : List ℕ → Query → ℕ → ℕ
+registerIn s (Registers command at n) i = at + i
+registerIn s (Listed n) i = addressAt s i
+registerIn s (Live command at n) i = at + i
+registerIn s NewEvents i = i
+registerIn s AllEvents i = i
+registerIn s Temperatures i = i
+registerIn s Cells i = i
+registerIn s (SettingsOf kind n) i = i
 
-unfoldable pub readsInRange : Request → Bool
-readsInRange (request.Refused refusal) = true
-readsInRange request.ClearEvents = true
-readsInRange request.ClearStatistics = true
-readsInRange (request.Write from n) = true
-readsInRange (request.Read q) = inRange q
+-- each lies in one of the ranges; those that 0x1D shows too
+unfoldable pub inRange : List ℕ → Query → Bool
+inRange s (Registers command at n) = inOneRange at n
+inRange s (Listed n) = allShown s n
+inRange s (Live command at n) = inOneRange at n
+inRange s NewEvents = true
+inRange s AllEvents = true
+inRange s Temperatures = true
+inRange s Cells = inOneRange 0 16
+inRange s (SettingsOf kind n) = inOneRange 300 n
 
-pub record Sound (c : ℕ) (q : Request) : Type 0 where
+unfoldable pub readsInRange : List ℕ → Request → Bool
+readsInRange s (request.Refused refusal) = true
+readsInRange s request.ClearEvents = true
+readsInRange s request.ClearStatistics = true
+readsInRange s (request.Write f n) = true
+readsInRange s (request.Read q) = inRange s q
+
+-- so each address of a list does
+pub each-shown : (s : List ℕ) (n i : ℕ) → allShown s n ≡ true → i < n → inOneRange (addressAt s i) 1 ≡ true
+unfolding allShown
+each-shown s zero i h l = absurd (omega arith)
+each-shown s (suc n) i h l = go (eqb i n) refl (λ k. each-shown s n i (both .0) k)
+  where
+    both : (allShown s n ≡ true) × (inOneRange (addressAt s n) 1 ≡ true)
+    both = and-eq-true-iff (allShown s n) (inOneRange (addressAt s n) 1) .0 h
+
+    go : (t : Bool) → eqb i n ≡ t → (i < n → inOneRange (addressAt s i) 1 ≡ true) → inOneRange (addressAt s i) 1 ≡ true
+    go true e f = ap (λ (k : ℕ). inOneRange (addressAt s k) 1) (eqb-true i n e) ∙ both .1
+    go false e f = f (omega (arith, eqb-false))
+
+settings-shown : (n : ℕ) → n ≤ 100 → inOneRange 300 n ≡ true
+settings-shown n h = rw (lt-leb (300 + n) 56 (omega arith), le-leb (300 + n) 400 (omega arith)) (or-true (leb (300 + n) 118))
+  where
+    or-true : (t : Bool) → (t || true) ≡ true
+    or-true true = refl
+    or-true false = refl
+
+pub settings-few : (n : ℕ) → inOneRange 300 n ≡ true → n ≤ 100
+settings-few n = go (leb (300 + n) 56) (leb (300 + n) 118) (leb (300 + n) 400) refl refl refl
+  where
+    go : (a b c : Bool) → leb (300 + n) 56 ≡ a → leb (300 + n) 118 ≡ b → leb (300 + n) 400 ≡ c → (a || b || c) ≡ true → n ≤ 100
+    go true b c e f g h = omega (arith, leb-true)
+    go false true c e f g h = omega (arith, leb-true)
+    go false false true e f g h = omega (arith, leb-true)
+    go false false false e f g h = absurd (false≢true h)
+
+pub record Sound (c : ℕ) (s : List ℕ) (q : Request) : Type 0 where
   pub named : commandIn c q ≡ c
-  pub in-range : readsInRange q ≡ true
+  pub in-range : readsInRange s q ≡ true
 
 -- ---- the command byte
 
 byteOf : ℕ → Command → ℕ
 byteOf c Clear = 0x02
 byteOf c Block = 0x03
-byteOf c Write = 0x10
+byteOf c QuickBlock = 0x07
+byteOf c AskList = 0x09
+byteOf c (Write f) = writeCommand f
 byteOf c (Ask q) = commandOf q
 byteOf c AskSettings = 0x1D
 byteOf c Unknown = c
 
-asksInRange : Command → Bool
-asksInRange Clear = true
-asksInRange Block = true
-asksInRange Write = true
-asksInRange (Ask q) = inRange q
-asksInRange AskSettings = true
-asksInRange Unknown = true
+-- what is asked whatever the fields, of those bytes
+asksInRange : List ℕ → Command → Bool
+asksInRange s Clear = true
+asksInRange s Block = true
+asksInRange s QuickBlock = true
+asksInRange s AskList = true
+asksInRange s (Write f) = true
+asksInRange s (Ask q) = inRange s q
+asksInRange s AskSettings = true
+asksInRange s Unknown = true
 
-record Stands (c pl : ℕ) (e : Expected) : Type 0 where
-  stands : byteOf c (e .command) ≡ c
-  in-range : asksInRange (e .command) ≡ true
-  length : (4 ≤ e .length) × (e .length ≤ 9 + pl)
+module _ (s : List ℕ) (c third seventh : ℕ) where
+  record Stands (e : Expected) : Type 0 where
+    stands : byteOf c (e .command) ≡ c
+    in-range : asksInRange s (e .command) ≡ true
+    least : 4 ≤ e .length
+    most : third ≤ 255 → seventh ≤ 255 → e .length ≤ 264
 
-byte : (k c pl : ℕ) (x : Expected) {y : Expected} → byteOf c (x .command) ≡ k → asksInRange (x .command) ≡ true → (4 ≤ x .length) × (x .length ≤ 9 + pl) → Stands c pl y → Stands c pl (cond (eqb c k) x y)
-byte k c pl x {y} p r l q = go (eqb c k) refl
-  where
-    go : (t : Bool) → eqb c k ≡ t → Stands c pl (cond t x y)
-    go true e = record { stands = p ∙ sym (eqb-true c k e); in-range = r; length = l }
-    go false e = q
+  byte : (k : ℕ) (x : Expected) {y : Expected} → byteOf c (x .command) ≡ k → asksInRange s (x .command) ≡ true → 4 ≤ x .length → (third ≤ 255 → seventh ≤ 255 → x .length ≤ 264) → Stands y → Stands (cond (eqb c k) x y)
+  byte k x {y} p r l m q = go (eqb c k) refl
+    where
+      go : (t : Bool) → eqb c k ≡ t → Stands (cond t x y)
+      go true e = record { stands = p ∙ sym (eqb-true c k e); in-range = r; least = l; most = m }
+      go false e = q
 
-expected : (c pl : ℕ) → Stands c pl (expectedOf c pl)
-unfolding expectedOf byteOf asksInRange registersOf commandOf
-expected c pl =
-    byte 0x02 c pl (expect 5 Clear) refl refl (omega arith, omega arith)
-    (byte 0x03 c pl (expect 8 Block) refl refl (omega arith, omega arith)
-    (byte 0x10 c pl (expect (9 + pl) Write) refl refl (omega arith, omega arith)
-    (byte 0x11 c pl (expect 4 (Ask NewEvents)) refl refl (omega arith, omega arith)
-    (byte 0x12 c pl (expect 4 (Ask AllEvents)) refl refl (omega arith, omega arith)
-    (byte 0x14 c pl (expect 4 (Ask (Live 0x14 36 2))) refl refl (omega arith, omega arith)
-    (byte 0x15 c pl (expect 4 (Ask (Live 0x15 38 2))) refl refl (omega arith, omega arith)
-    (byte 0x16 c pl (expect 4 (Ask (Live 0x16 41 1))) refl refl (omega arith, omega arith)
-    (byte 0x17 c pl (expect 4 (Ask (Live 0x17 40 1))) refl refl (omega arith, omega arith)
-    (byte 0x18 c pl (expect 4 (Ask (Live 0x18 50 1))) refl refl (omega arith, omega arith)
-    (byte 0x19 c pl (expect 4 (Ask (Live 0x19 32 2))) refl refl (omega arith, omega arith)
-    (byte 0x1B c pl (expect 4 (Ask Temperatures)) refl refl (omega arith, omega arith)
-    (byte 0x1C c pl (expect 4 (Ask Cells)) refl refl (omega arith, omega arith)
-    (byte 0x1D c pl (expect 7 AskSettings) refl refl (omega arith, omega arith)
-    (record { stands = refl; in-range = refl; length = (omega arith, omega arith) }))))))))))))))
+  expected : Stands (expectedOf c third seventh)
+  unfolding expectedOf byteOf asksInRange inRange commandOf writeCommand
+  expected =
+      byte 0x02 (expect 5 Clear) refl refl (omega arith) (λ h k. omega arith)
+      (byte 0x03 (expect 8 Block) refl refl (omega arith) (λ h k. omega arith)
+      (byte 0x07 (expect 7 QuickBlock) refl refl (omega arith) (λ h k. omega arith)
+      (byte 0x09 (expect (5 + third) AskList) refl refl (omega arith) (λ h k. omega arith)
+      (byte 0x0B (expect (5 + third) (Write form.Block)) refl refl (omega arith) (λ h k. omega arith)
+      (byte 0x0D (expect (5 + third) (Write form.List)) refl refl (omega arith) (λ h k. omega arith)
+      (byte 0x10 (expect (9 + seventh) (Write form.Modbus)) refl refl (omega arith) (λ h k. omega arith)
+      (byte 0x11 (expect 4 (Ask NewEvents)) refl refl (omega arith) (λ h k. omega arith)
+      (byte 0x12 (expect 4 (Ask AllEvents)) refl refl (omega arith) (λ h k. omega arith)
+      (byte 0x14 (expect 4 (Ask (Live 0x14 36 2))) refl refl (omega arith) (λ h k. omega arith)
+      (byte 0x15 (expect 4 (Ask (Live 0x15 38 2))) refl refl (omega arith) (λ h k. omega arith)
+      (byte 0x16 (expect 4 (Ask (Live 0x16 41 1))) refl refl (omega arith) (λ h k. omega arith)
+      (byte 0x17 (expect 4 (Ask (Live 0x17 40 1))) refl refl (omega arith) (λ h k. omega arith)
+      (byte 0x18 (expect 4 (Ask (Live 0x18 50 1))) refl refl (omega arith) (λ h k. omega arith)
+      (byte 0x19 (expect 4 (Ask (Live 0x19 32 2))) refl refl (omega arith) (λ h k. omega arith)
+      (byte 0x1B (expect 4 (Ask Temperatures)) refl refl (omega arith) (λ h k. omega arith)
+      (byte 0x1C (expect 4 (Ask Cells)) refl refl (omega arith) (λ h k. omega arith)
+      (byte 0x1D (expect 7 AskSettings) refl refl (omega arith) (λ h k. omega arith)
+      (record { stands = refl; in-range = refl; least = omega arith; most = λ h k. omega arith }))))))))))))))))))
 
--- 4 bytes at least, and 9 + PL at most
-pub long : (c pl : ℕ) → (4 ≤ expectedOf c pl .length) × (expectedOf c pl .length ≤ 9 + pl)
-long c pl = expected c pl .length
+-- 4 bytes at least, and 264 at most
+pub least : (c third seventh : ℕ) → 4 ≤ expectedOf c third seventh .length
+least c third seventh = expected [] c third seventh .least
+
+pub most : (c third seventh : ℕ) → third ≤ 255 → seventh ≤ 255 → expectedOf c third seventh .length ≤ 264
+most c third seventh = expected [] c third seventh .most
 
 -- ---- the fields
 
-both : (c : ℕ) (t : Bool) (x y : Request) → (t ≡ true → Sound c x) → Sound c y → Sound c (cond t x y)
-both c true x y p q = p refl
-both c false x y p q = q
+module _ (c : ℕ) (s : List ℕ) where
+  both : (t : Bool) (x y : Request) → (t ≡ true → Sound c s x) → Sound c s y → Sound c s (cond t x y)
+  both true x y p q = p refl
+  both false x y p q = q
 
-fields : (c : ℕ) (s : List ℕ) (k : Command) → byteOf c k ≡ c → asksInRange k ≡ true → Sound c (fieldsOf k c s)
-unfolding commandIn readsInRange registersOf byteOf asksInRange fieldsOf clearOf blockOf writeOf settingsOf commandOf
-fields c s Clear e r = go (eqb (getD s 2 0) 1) (eqb (getD s 2 0) 2)
-  where
-    go : (t u : Bool) → Sound c (cond t request.ClearEvents (cond u request.ClearStatistics (against 0x02)))
-    go true u = record { named = refl; in-range = refl }
-    go false true = record { named = refl; in-range = refl }
-    go false false = record { named = e; in-range = refl }
-fields c s Block e r =
-    both c (eqb (getD s 4 0) 0 && between 1 127 (getD s 5 0) && inOneRange (be16At s 2) (getD s 5 0)) _ _
-    (λ h. record { named = e; in-range = last h })
-    (record { named = e; in-range = refl })
-  where
-    last : eqb (getD s 4 0) 0 && between 1 127 (getD s 5 0) && inOneRange (be16At s 2) (getD s 5 0) ≡ true → inOneRange (be16At s 2) (getD s 5 0) ≡ true
-    last h = and-eq-true-iff (eqb (getD s 4 0) 0 && between 1 127 (getD s 5 0)) (inOneRange (be16At s 2) (getD s 5 0)) .0 h .1
-fields c s Write e r =
-    both c (eqb (getD s 4 0) 0 && between 1 100 (getD s 5 0) && eqb (getD s 6 0) (2 * getD s 5 0) && leb 300 (be16At s 2) && leb (be16At s 2 + getD s 5 0) 400) _ _
-    (λ h. record { named = e; in-range = refl })
-    (record { named = e; in-range = refl })
-fields c s (Ask q) e r = record { named = e; in-range = r }
-fields c s AskSettings e r =
-    both c (between 1 4 (getD s 2 0) && eqb (getD s 3 0) 0 && between 1 100 (getD s 4 0)) _ _
-    (λ h. record { named = e; in-range = refl })
-    (record { named = e; in-range = refl })
-fields c s Unknown e r = record { named = refl; in-range = refl }
+  refused : (k : ℕ) → k ≡ c → Sound c s (against k)
+  unfolding commandIn readsInRange
+  refused k e = record { named = e; in-range = refl }
 
-asked : (c : ℕ) (s : List ℕ) → Sound c (askedOf c s)
-unfolding askedOf commandIn readsInRange
-asked c s =
-    let k = expected c (getD s 6 0) in
-    both c (eqb (length s) (lengthBy c s)) _ (against c)
-    (λ h. fields c s (expectedOf c (getD s 6 0) .command) (k .stands) (k .in-range))
-    (record { named = refl; in-range = refl })
+  block : (k at padding rl : ℕ) → k ≡ c → Sound c s (blockOf k at padding rl)
+  unfolding commandIn readsInRange inRange blockOf commandOf
+  block k at padding rl e =
+      both (eqb padding 0 && between 1 127 rl && inOneRange at rl) _ _
+      (λ h. record { named = e; in-range = and-eq-true-iff (eqb padding 0 && between 1 127 rl) (inOneRange at rl) .0 h .1 })
+      (refused k e)
+
+  fields : (k : Command) → byteOf c k ≡ c → asksInRange s k ≡ true → Sound c s (fieldsOf k c s)
+  unfolding commandIn readsInRange inRange byteOf asksInRange fieldsOf clearOf listOf writeOf settingsOf commandOf
+  fields Clear e r = go (eqb (getD s 2 0) 1) (eqb (getD s 2 0) 2)
+    where
+      go : (t u : Bool) → Sound c s (cond t request.ClearEvents (cond u request.ClearStatistics (against 0x02)))
+      go true u = record { named = refl; in-range = refl }
+      go false true = record { named = refl; in-range = refl }
+      go false false = record { named = e; in-range = refl }
+  fields Block e r = block 0x03 (be16At s 2) (getD s 4 0) (getD s 5 0) e
+  fields QuickBlock e r = block 0x07 (le16At s 3) 0 (getD s 2 0) e
+  fields AskList e r =
+      let pl = getD s 2 0 in
+      both (eqb pl (2 * (pl / 2)) && between 1 63 (pl / 2) && allShown s (pl / 2)) _ _
+      (λ h. record { named = e; in-range = and-eq-true-iff (eqb pl (2 * (pl / 2)) && between 1 63 (pl / 2)) (allShown s (pl / 2)) .0 h .1 })
+      (refused 0x09 e)
+  fields (Write f) e r =
+      both (wellCounted f s (countOf f s) && allSettings (pairsOf f s (countOf f s))) _ _ (λ h. record { named = e; in-range = refl }) (refused (writeCommand f) e)
+  fields (Ask q) e r = record { named = e; in-range = r }
+  fields AskSettings e r =
+      both (between 1 4 (getD s 2 0) && eqb (getD s 3 0) 0 && between 1 100 (getD s 4 0)) _ _
+      (λ h.
+      let few = and-eq-true-iff (leb 1 (getD s 4 0)) (leb (getD s 4 0) 100) .0 (and-eq-true-iff (between 1 4 (getD s 2 0) && eqb (getD s 3 0) 0) (between 1 100 (getD s 4 0)) .0 h .1) .1 in
+      record { named = e; in-range = settings-shown (getD s 4 0) (leb-true (getD s 4 0) 100 few) })
+      (refused 0x1D e)
+  fields Unknown e r = refused c refl
+
+  asked : Sound c s (askedOf c s)
+  unfolding askedOf
+  asked =
+      let k = expected s c (getD s 2 0) (getD s 6 0) in
+      both (eqb (length s) (expectedBy c s .length)) _ (against c)
+      (λ h. fields (expectedBy c s .command) (k .stands) (k .in-range))
+      (refused c refl)
 
 -- ---- every request
 
-pub sound : (s : List ℕ) → Sound (getD s 1 0) (requestOf s)
+pub sound : (s : List ℕ) → Sound (getD s 1 0) s (requestOf s)
 unfolding requestOf commandIn readsInRange
 sound s = go (ltb (length s) 4) (eqb (getD s 0 0) 0xAA) (eqb (crcOf (take (length s - 2) s)) (le16At s (length s - 2)))
   where
     c : ℕ
     c = getD s 1 0
 
-    go : (t u v : Bool) → Sound c (cond t (request.Refused Foreign) (cond u (cond v (askedOf c s) (request.Refused (Damaged c))) (request.Refused Foreign)))
+    go : (t u v : Bool) → Sound c s (cond t (request.Refused Foreign) (cond u (cond v (askedOf c s) (request.Refused (Damaged c))) (request.Refused Foreign)))
     go true u v = record { named = refl; in-range = refl }
     go false true true = asked c s
     go false true false = record { named = refl; in-range = refl }
@@ -170,7 +245,7 @@ isRuled (request.Refused (Damaged command)) = false
 isRuled (request.Refused (Against command)) = true
 isRuled request.ClearEvents = true
 isRuled request.ClearStatistics = true
-isRuled (request.Write from n) = true
+isRuled (request.Write f n) = true
 isRuled (request.Read q) = true
 
 pub record Ruled (q : Request) : Type 0 where
@@ -181,20 +256,21 @@ either true x y p q = p
 either false x y p q = q
 
 fields-ruled : (c : ℕ) (s : List ℕ) (k : Command) → Ruled (fieldsOf k c s)
-unfolding isRuled fieldsOf clearOf blockOf writeOf settingsOf
+unfolding isRuled fieldsOf clearOf blockOf listOf writeOf settingsOf
 fields-ruled c s Clear =
     either (eqb (getD s 2 0) 1) request.ClearEvents _ (record { ruled = refl })
     (either (eqb (getD s 2 0) 2) request.ClearStatistics (against 0x02) (record { ruled = refl }) (record { ruled = refl }))
 fields-ruled c s Block =
     either (eqb (getD s 4 0) 0 && between 1 127 (getD s 5 0) && inOneRange (be16At s 2) (getD s 5 0)) _ _ (record { ruled = refl }) (record { ruled = refl })
-fields-ruled c s Write =
-    either (eqb (getD s 4 0) 0 && between 1 100 (getD s 5 0) && eqb (getD s 6 0) (2 * getD s 5 0) && leb 300 (be16At s 2) && leb (be16At s 2 + getD s 5 0) 400) _ _
-    (record { ruled = refl })
-    (record { ruled = refl })
+fields-ruled c s QuickBlock = either (between 1 127 (getD s 2 0) && inOneRange (le16At s 3) (getD s 2 0)) _ _ (record { ruled = refl }) (record { ruled = refl })
+fields-ruled c s AskList =
+    let pl = getD s 2 0 in
+    either (eqb pl (2 * (pl / 2)) && between 1 63 (pl / 2) && allShown s (pl / 2)) _ _ (record { ruled = refl }) (record { ruled = refl })
+fields-ruled c s (Write f) = either (wellCounted f s (countOf f s) && allSettings (pairsOf f s (countOf f s))) _ _ (record { ruled = refl }) (record { ruled = refl })
 fields-ruled c s (Ask q) = record { ruled = refl }
 fields-ruled c s AskSettings = either (between 1 4 (getD s 2 0) && eqb (getD s 3 0) 0 && between 1 100 (getD s 4 0)) _ _ (record { ruled = refl }) (record { ruled = refl })
 fields-ruled c s Unknown = record { ruled = refl }
 
 pub asked-ruled : (c : ℕ) (s : List ℕ) → Ruled (askedOf c s)
 unfolding isRuled askedOf
-asked-ruled c s = either (eqb (length s) (lengthBy c s)) _ (against c) (fields-ruled c s (expectedOf c (getD s 6 0) .command)) (record { ruled = refl })
+asked-ruled c s = either (eqb (length s) (expectedBy c s .length)) _ (against c) (fields-ruled c s (expectedBy c s .command)) (record { ruled = refl })

@@ -1,8 +1,8 @@
 // What a request asks: read from its bytes alone, with no length trusted.
 ghost use mathlib.Core.Path.{_≡_};
-ghost use Prim.Native.Nat.{_+_, _≤_};
+ghost use Prim.Native.Nat.{_+_, _-_, _≤_};
 ghost use lib.ListN.{getD};
-ghost use Rattle.requests.specs.Requests.{be16At, le16At, expect, expectedOf, lengthOf, inOneRange, clearOf, blockOf, writeOf, kindOf, settingsOf, fieldsOf, askedOf, requestOf, refusalNumber, commandOf, hasLength, highFirst, marks, wordCount, draftedOf, writtenTo};
+ghost use Rattle.requests.specs.Requests.{be16At, le16At, expect, expectedOf, expectedBy, lengthOf, inOneRange, clearOf, blockOf, addressAt, allShown, listOf, pairAt, pairsOf, countOf, wellCounted, allSettings, writeCommand, writeOf, kindOf, settingsOf, fieldsOf, askedOf, requestOf, refusalNumber, commandOf, hasLength, highFirst, marks, wordCount, draftedOf, writtenTo};
 use settings::Draft;
 use settings::Kind;
 use settings::Settings;
@@ -10,7 +10,8 @@ use settings::Written;
 
 // A request that changes nothing but 0x11's mark. A reply to it is a head and words of sixteen bits.
 pub enum Query {
-    Registers { at: u16, count: u8 },
+    Registers { command: u8, at: u16, count: u8 }, // 0x03 and 0x07
+    Listed { count: u8 }, // 0x09; its addresses are the request's own bytes
     Live { command: u8, at: u16, count: u8 },
     NewEvents,
     AllEvents,
@@ -19,11 +20,26 @@ pub enum Query {
     SettingsOf { kind: Kind, count: u8 },
 }
 
+// How a write has its registers: 0x10's block, high byte first; 0x0B's block; 0x0D's list of pairs.
+pub enum Form {
+    Modbus,
+    Block,
+    List,
+}
+
+// A register that is written, and its value.
+pub struct Pair {
+    pub at: u32,
+    pub value: u16,
+}
+
 // What a command byte stands for; the fields of some are still to be read.
 pub enum Command {
     Clear,
     Block,
-    Write,
+    QuickBlock,
+    AskList,
+    Write(Form),
     Ask(Query),
     AskSettings,
     Unknown,
@@ -47,7 +63,7 @@ pub enum Request {
     Refused(Refusal),
     ClearEvents,
     ClearStatistics,
-    Write { from: u8, count: u8 },
+    Write { form: Form, count: u8 },
     Read(Query),
 }
 
@@ -70,7 +86,12 @@ impl Query {
         ensures { λ r. ⌜ r ≡ commandOf self ⌝ }
     {
         match self {
-            Query::Registers { at: _, count: _ } => 0x03,
+            Query::Registers {
+                command,
+                at: _,
+                count: _,
+            } => command,
+            Query::Listed { count: _ } => 0x09,
             Query::Live {
                 command,
                 at: _,
@@ -103,7 +124,11 @@ impl Query {
         ensures { λ r. ⌜ r ≡ highFirst self ⌝ }
     {
         match self {
-            Query::Registers { at: _, count: _ } => true,
+            Query::Registers {
+                command,
+                at: _,
+                count: _,
+            } => command == 0x03,
             _ => false,
         }
     }
@@ -123,7 +148,12 @@ impl Query {
         ensures { λ r. ⌜ r ≡ wordCount self new kept cells ⌝ }
     {
         match self {
-            Query::Registers { at: _, count } => count as u16,
+            Query::Registers {
+                command: _,
+                at: _,
+                count,
+            } => count as u16,
+            Query::Listed { count } => 2 * (count as u16),
             Query::Live {
                 command: _,
                 at: _,
@@ -134,6 +164,19 @@ impl Query {
             Query::Temperatures => 3,
             Query::Cells => cells as u16,
             Query::SettingsOf { kind: _, count } => count as u16,
+        }
+    }
+}
+
+impl Form {
+    // The command byte of each.
+    pub fn command(self) -> u8
+        ensures { λ r. ⌜ r ≡ writeCommand self ⌝ }
+    {
+        match self {
+            Form::Modbus => 0x10,
+            Form::Block => 0x0B,
+            Form::List => 0x0D,
         }
     }
 }
@@ -164,34 +207,73 @@ pub fn parsed(bytes: &[u8]) -> Request
 pub fn length_of(bytes: &[u8]) -> usize
     ensures { λ r. ⌜ (r ≡ lengthOf (now (bytes .entry))) × (r ≤ 264) ⌝ }
 {
-    expected_of(byte_at(bytes, 1), byte_at(bytes, 6)).length
+    expected_by(byte_at(bytes, 1), bytes).length
 }
 
-// A write of registers, high byte first, to settings that stand: judged whole, and what then stands.
-pub fn written(settings: Settings, bytes: &[u8], from: u8, count: u8) -> Written
-    ensures { λ r. ⌜ r ≡ writtenTo settings (now (bytes .entry)) from count ⌝ }
+// The i-th address of a list.
+pub fn address_at(bytes: &[u8], i: u16) -> u16
+    ensures { λ r. ⌜ r ≡ addressAt (now (bytes .entry)) i ⌝ }
 {
-    drafted(settings.draft(), bytes, from, count).finish()
+    low_first_at(bytes, 3 + 2 * (i as usize))
+}
+
+// The address of 0x10, which its reply repeats.
+pub fn write_address(bytes: &[u8]) -> u16
+    ensures { λ r. ⌜ r ≡ be16At (now (bytes .entry)) 2 ⌝ }
+{
+    high_first_at(bytes, 2)
+}
+
+// A write to settings that stand: judged whole, and what then stands.
+pub fn written(settings: Settings, bytes: &[u8], form: Form, count: u8) -> Written
+    ensures { λ r. ⌜ r ≡ writtenTo settings (pairsOf form (now (bytes .entry)) count) ⌝ }
+{
+    drafted(settings.draft(), bytes, form, count).finish()
 }
 
 // The registers, put into a draft one by one.
-fn drafted(draft: Draft, bytes: &[u8], from: u8, count: u8) -> Draft
-    ensures { λ r. ⌜ r ≡ draftedOf draft (now (bytes .entry)) from count ⌝ }
+fn drafted(draft: Draft, bytes: &[u8], form: Form, count: u8) -> Draft
+    ensures { λ r. ⌜ r ≡ draftedOf draft (pairsOf form (now (bytes .entry)) count) ⌝ }
 {
     let mut all = draft;
     let mut i: u16 = 0;
     while i < (count as u16) {
-        let value = high_first_at(bytes, 7 + 2 * (i as usize));
-        all = all.put(300 + (from as u16) + i, value);
+        let pair = pair_at(form, bytes, i);
+        all = all.put(pair.at, pair.value);
         i += 1;
     }
     all
 }
 
+// The i-th register of a write.
+fn pair_at(form: Form, bytes: &[u8], i: u16) -> Pair
+    ensures { λ r. ⌜ r ≡ pairAt form (now (bytes .entry)) i ⌝ }
+{
+    let n = i as usize;
+    match form {
+        Form::Modbus => pair_of(high_first_at(bytes, 2), i, high_first_at(bytes, 7 + 2 * n)),
+        Form::Block => pair_of(low_first_at(bytes, 3), i, low_first_at(bytes, 5 + 2 * n)),
+        Form::List => pair_of(
+            low_first_at(bytes, 3 + 4 * n),
+            0,
+            low_first_at(bytes, 5 + 4 * n),
+        ),
+    }
+}
+
+fn pair_of(first: u16, i: u16, value: u16) -> Pair
+    ensures { λ r. ⌜ r ≡ record { at = first + i; value = value } ⌝ }
+{
+    Pair {
+        at: (first as u32) + (i as u32),
+        value,
+    }
+}
+
 fn asked(command: u8, bytes: &[u8]) -> Request
     ensures { λ r. ⌜ r ≡ askedOf command (now (bytes .entry)) ⌝ }
 {
-    let expected = expected_of(command, byte_at(bytes, 6));
+    let expected = expected_by(command, bytes);
     if bytes.len() != expected.length {
         return Request::Refused(Refusal::Against(command));
     }
@@ -199,14 +281,24 @@ fn asked(command: u8, bytes: &[u8]) -> Request
     fields(kind, command, bytes)
 }
 
-// The command byte decides the length and the meaning.
-fn expected_of(command: u8, pl: u8) -> Expected
-    ensures { λ r. ⌜ r ≡ expectedOf command pl ⌝ }
+fn expected_by(command: u8, bytes: &[u8]) -> Expected
+    ensures { λ r. ⌜ (r ≡ expectedBy command (now (bytes .entry))) × (r .length ≤ 264) ⌝ }
+{
+    expected_of(command, byte_at(bytes, 2), byte_at(bytes, 6))
+}
+
+// The command byte decides the length and the meaning; PL is the third byte, or the seventh.
+fn expected_of(command: u8, third: u8, seventh: u8) -> Expected
+    ensures { λ r. ⌜ r ≡ expectedOf command third seventh ⌝ }
 {
     match command {
         0x02 => expect(5, Command::Clear),
         0x03 => expect(8, Command::Block),
-        0x10 => expect(9 + (pl as usize), Command::Write),
+        0x07 => expect(7, Command::QuickBlock),
+        0x09 => expect(5 + (third as usize), Command::AskList),
+        0x0B => expect(5 + (third as usize), Command::Write(Form::Block)),
+        0x0D => expect(5 + (third as usize), Command::Write(Form::List)),
+        0x10 => expect(9 + (seventh as usize), Command::Write(Form::Modbus)),
         0x11 => expect(4, Command::Ask(Query::NewEvents)),
         0x12 => expect(4, Command::Ask(Query::AllEvents)),
         0x14 => expect(4, live(0x14, 36, 2)),
@@ -228,16 +320,14 @@ fn fields(command: Command, code: u8, bytes: &[u8]) -> Request
     match command {
         Command::Clear => clear(byte_at(bytes, 2)),
         Command::Block => block(
+            0x03,
             high_first_at(bytes, 2),
             byte_at(bytes, 4),
             byte_at(bytes, 5),
         ),
-        Command::Write => write(
-            high_first_at(bytes, 2),
-            byte_at(bytes, 4),
-            byte_at(bytes, 5),
-            byte_at(bytes, 6),
-        ),
+        Command::QuickBlock => block(0x07, low_first_at(bytes, 3), 0, byte_at(bytes, 2)),
+        Command::AskList => list(byte_at(bytes, 2), bytes),
+        Command::Write(form) => write(form, bytes, count_of(form, bytes)),
         Command::Ask(query) => Request::Read(query),
         Command::AskSettings => settings_of(
             byte_at(bytes, 2),
@@ -261,14 +351,42 @@ fn clear(option: u8) -> Request
     }
 }
 
-fn block(at: u16, padding: u8, rl: u8) -> Request
-    ensures { λ r. ⌜ r ≡ blockOf at padding rl ⌝ }
+fn block(command: u8, at: u16, padding: u8, rl: u8) -> Request
+    ensures { λ r. ⌜ r ≡ blockOf command at padding rl ⌝ }
 {
     let good = (padding == 0) & ((1 <= rl) & (rl <= 127)) & is_in_one_range(at, rl);
     if good {
-        return Request::Read(Query::Registers { at, count: rl });
+        return Request::Read(Query::Registers {
+            command,
+            at,
+            count: rl,
+        });
     }
-    Request::Refused(Refusal::Against(0x03))
+    Request::Refused(Refusal::Against(command))
+}
+
+fn list(pl: u8, bytes: &[u8]) -> Request
+    ensures { λ r. ⌜ r ≡ listOf pl (now (bytes .entry)) ⌝ }
+{
+    let count = pl / 2;
+    let good = (pl == 2 * count) & ((1 <= count) & (count <= 63)) & are_all_shown(bytes, count);
+    if good {
+        return Request::Read(Query::Listed { count });
+    }
+    Request::Refused(Refusal::Against(0x09))
+}
+
+// Each of the first addresses of a list lies in one of the ranges.
+fn are_all_shown(bytes: &[u8], count: u8) -> bool
+    ensures { λ r. ⌜ r ≡ allShown (now (bytes .entry)) count ⌝ }
+{
+    let mut good = true;
+    let mut i: u16 = 0;
+    while i < (count as u16) {
+        good = good & is_in_one_range(address_at(bytes, i), 1);
+        i += 1;
+    }
+    good
 }
 
 fn is_in_one_range(at: u16, rl: u8) -> bool
@@ -279,18 +397,60 @@ fn is_in_one_range(at: u16, rl: u8) -> bool
     (end <= 56) | ((100 <= first) & (end <= 118)) | ((300 <= first) & (end <= 400))
 }
 
-fn write(at: u16, padding: u8, rl: u8, pl: u8) -> Request
-    ensures { λ r. ⌜ r ≡ writeOf at padding rl pl ⌝ }
+fn write(form: Form, bytes: &[u8], count: u8) -> Request
+    ensures { λ r. ⌜ r ≡ writeOf form (now (bytes .entry)) count ⌝ }
 {
-    let end = (at as u32) + (rl as u32);
-    let good = (padding == 0) & ((1 <= rl) & (rl <= 100)) & ((pl as u32) == 2 * (rl as u32));
-    if good & (300 <= at) & (end <= 400) {
-        return Request::Write {
-            from: (at - 300) as u8,
-            count: rl,
-        };
+    let good = is_counted(form, bytes, count) & are_all_settings(form, bytes, count);
+    if good {
+        return Request::Write { form, count };
     }
-    Request::Refused(Refusal::Against(0x10))
+    Request::Refused(Refusal::Against(form.command()))
+}
+
+// How many registers a write has by its RL or PL.
+fn count_of(form: Form, bytes: &[u8]) -> u8
+    ensures { λ r. ⌜ r ≡ countOf form (now (bytes .entry)) ⌝ }
+{
+    match form {
+        Form::Modbus => byte_at(bytes, 5),
+        Form::Block => one_less(byte_at(bytes, 2) / 2),
+        Form::List => byte_at(bytes, 2) / 4,
+    }
+}
+
+fn one_less(n: u8) -> u8
+    ensures { λ r. ⌜ r ≡ n - 1 ⌝ }
+{
+    if n == 0 { 0 } else { n - 1 }
+}
+
+// As many as it may have, and PL says so.
+fn is_counted(form: Form, bytes: &[u8], count: u8) -> bool
+    ensures { λ r. ⌜ r ≡ wellCounted form (now (bytes .entry)) count ⌝ }
+{
+    let n = count as u16;
+    let pl = byte_at(bytes, 2) as u16;
+    match form {
+        Form::Modbus => (byte_at(bytes, 4) == 0)
+            & ((1 <= count) & (count <= 100))
+            & ((byte_at(bytes, 6) as u16) == 2 * n),
+        Form::Block => ((1 <= count) & (count <= 100)) & (pl == 2 + 2 * n),
+        Form::List => ((1 <= count) & (count <= 50)) & (pl == 4 * n),
+    }
+}
+
+// Each of the first registers of a write lies in 300 to 399.
+fn are_all_settings(form: Form, bytes: &[u8], count: u8) -> bool
+    ensures { λ r. ⌜ r ≡ allSettings (pairsOf form (now (bytes .entry)) count) ⌝ }
+{
+    let mut good = true;
+    let mut i: u16 = 0;
+    while i < (count as u16) {
+        let at = pair_at(form, bytes, i).at;
+        good = good & ((300 <= at) & (at <= 399));
+        i += 1;
+    }
+    good
 }
 
 fn settings_of(option: u8, padding: u8, rl: u8) -> Request
@@ -337,7 +497,7 @@ fn byte_at(bytes: &[u8], i: usize) -> u8
 }
 
 fn high_first_at(bytes: &[u8], i: usize) -> u16
-    requires { ⌜ i ≤ 65536 ⌝ }
+    requires { ⌜ i + 2 ≤ 18446744073709551615 ⌝ }
     ensures { λ r. ⌜ r ≡ be16At (now (bytes .entry)) i ⌝ }
 {
     256 * (byte_at(bytes, i) as u16) + (byte_at(bytes, i + 1) as u16)

@@ -6,7 +6,7 @@ use Prim.Native.Nat.{ℕ}
 use Rattle.signed.specs.Signed.{bitsOf, fromBits}
 use Rattle.settings.specs.declared.Settings.{Settings}
 use Rattle.settings.specs.declared.Verdict.the-variants.{Taken, OutOfRange, OutOfOrder}
-use Rattle.settings.specs.Settings.{factory, minimum, maximum, registerOf, withOf, listed, noneBelow, inRange, ordered, judgedOf, draftOf, putOf, verdictOf}
+use Rattle.settings.specs.Settings.{factory, minimum, maximum, registerOf, withOf, listed, noneBelow, inRange, ordered, judgedOf, draftOf, putOf, verdictOf, standingOf, writtenOf}
 
 -- the registers of the list, in its order
 numbers : List ℕ
@@ -46,3 +46,26 @@ signed-320 = (refl, refl)
 unlisted : (verdictOf (putOf (draftOf factory) 302 0) ≡ Taken) × (verdictOf (putOf (draftOf factory) 302 1) ≡ OutOfRange)
 unfolding verdictOf putOf withOf listed judgedOf inRange noneBelow ordered
 unlisted = (refl, refl)
+
+-- W-202: a repeated address takes the later value, and only the final values are judged: 315 and 302 pass through a value that is against
+-- their rule, or end on one; 302 is put right and 304 is not
+passing : (verdictOf (putOf (putOf (draftOf factory) 315 3000) 315 4200) ≡ Taken) × (verdictOf (putOf (putOf (draftOf factory) 302 5) 302 0) ≡ Taken)
+unfolding verdictOf putOf withOf listed judgedOf inRange noneBelow ordered
+passing = (refl, refl)
+
+ending : (verdictOf (putOf (putOf (draftOf factory) 315 4200) 315 3000) ≡ OutOfOrder) × (verdictOf (putOf (putOf (draftOf factory) 302 0) 302 5) ≡ OutOfRange)
+unfolding verdictOf putOf withOf listed judgedOf inRange noneBelow ordered
+ending = (refl, refl)
+
+one-of-two : verdictOf (putOf (putOf (putOf (draftOf factory) 304 5) 302 5) 302 0) ≡ OutOfRange
+unfolding verdictOf putOf withOf listed judgedOf inRange noneBelow ordered
+one-of-two = refl
+
+later-value : registerOf (writtenOf (putOf (putOf (draftOf factory) 315 4100) 315 4000) .settings) 315 ≡ 4000
+unfolding verdictOf standingOf putOf withOf listed judgedOf inRange noneBelow ordered registerOf
+later-value = refl
+
+-- the places of the first and the last register, and none beyond them
+at-the-ends : (verdictOf (putOf (draftOf factory) 300 1) ≡ OutOfRange) × (verdictOf (putOf (draftOf factory) 399 1) ≡ OutOfRange) × (verdictOf (putOf (draftOf factory) 299 1) ≡ Taken) × (verdictOf (putOf (draftOf factory) 400 1) ≡ Taken)
+unfolding verdictOf putOf withOf listed judgedOf inRange noneBelow ordered
+at-the-ends = (refl, refl, refl, refl)

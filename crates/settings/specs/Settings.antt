@@ -1,10 +1,12 @@
 -- The twelve settings, their ranges, and a write that is taken whole or not at all.
 -- Assumes nothing.
 use mathlib.Core.Bool.{Bool, false, _&&_, _||_, not, cond}
-use Prim.Native.Nat.{ℕ}
+use Prim.Native.Nat.{ℕ, _-_}
 use lib.Dec.{eqb, leb, ltb}
 use lib.IntN.{pos, negsuc}
+use lib.ListN.{set, replicate}
 use lib.Signed.{leZ}
+use Rattle.laws.specs.History.{any}
 use Rattle.signed.specs.Signed.{bitsOf, fromBits}
 use Rattle.settings.specs.declared.Settings.{Settings}
 use Rattle.settings.specs.declared.Kind.{Kind}
@@ -99,20 +101,21 @@ numberOf OutOfOrder = 4
 
 -- a write under way on the settings s: nothing is written yet
 abbrev pub draftOf : Settings → Draft
-draftOf s = record { standing = s; drafted = s; stray = false }
+draftOf s = record { standing = s; drafted = s; strays = replicate 100 false }
 
--- one register of it; every unlisted register has range 0 to 0
+-- one register of it: a repeated address takes the later value. Every unlisted register in 300 to 399 has range 0 to 0; a register outside
+-- them is no setting
 unfoldable pub putOf : Draft → ℕ → ℕ → Draft
 putOf d at value =
     record {
       standing = d .standing;
       drafted = withOf (d .drafted) at value;
-      stray = d .stray || not (listed at) && not (eqb value 0);
+      strays = cond (leb 300 at && leb at 399) (set (d .strays) (at - 300) (not (listed at) && not (eqb value 0))) (d .strays);
     }
 
--- what a write is judged to be
+-- what a write is judged to be: only the final values are judged
 unfoldable pub verdictOf : Draft → Verdict
-verdictOf d = cond (d .stray) OutOfRange (judgedOf (d .drafted))
+verdictOf d = cond (any (λ stray. stray) (d .strays)) OutOfRange (judgedOf (d .drafted))
 
 -- a write is taken whole or not at all: the settings that then stand
 unfoldable pub standingOf : Draft → Verdict → Settings

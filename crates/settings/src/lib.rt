@@ -1,5 +1,6 @@
 // The twelve settings: their values by register, their ranges, and a write that is taken whole or not at all.
 ghost use mathlib.Core.Path.{_≡_};
+ghost use Rattle.laws.specs.History.{any};
 ghost use Rattle.settings.specs.Settings.{factory, ofKind, registerOf, withOf, listed, noneBelow, inRange, ordered};
 ghost use Rattle.settings.specs.Settings.{judgedOf, numberOf, draftOf, putOf, verdictOf, standingOf, writtenOf};
 
@@ -34,11 +35,12 @@ pub enum Verdict {
     OutOfOrder,
 }
 
-// A write under way: what stands, what would stand, and whether an unlisted register was given anything but 0.
+// A write under way: what stands, what would stand, and for each register from 300 on whether it is unlisted and would
+// take anything but 0.
 pub struct Draft {
     pub standing: Settings,
     pub drafted: Settings,
-    pub stray: bool,
+    pub strays: [bool; 100],
 }
 
 // What a write was judged to be, and the settings that stand after it.
@@ -153,11 +155,11 @@ impl Settings {
         Draft {
             standing: self,
             drafted: self,
-            stray: false,
+            strays: [false; 100],
         }
     }
 
-    fn with(mut self, at: u16, value: u16) -> Settings
+    fn with(mut self, at: u32, value: u16) -> Settings
         ensures { λ r. ⌜ r ≡ withOf self at value ⌝ }
     {
         match at {
@@ -210,16 +212,20 @@ impl Settings {
 }
 
 impl Draft {
-    // One register of the write.
-    pub fn put(self, at: u16, value: u16) -> Draft
+    // One register of the write; the later value where it was put before. One outside 300 to 399 is no setting.
+    pub fn put(self, at: u32, value: u16) -> Draft
         ensures { λ r. ⌜ r ≡ putOf self at value ⌝ }
     {
         let standing = self.standing;
         let drafted = self.drafted.with(at, value);
+        let mut strays = self.strays;
+        if (300 <= at) & (at <= 399) {
+            strays[(at - 300) as usize] = !is_listed(at) & (value != 0);
+        }
         Draft {
             standing,
             drafted,
-            stray: self.stray | (!is_listed(at) & (value != 0)),
+            strays,
         }
     }
 
@@ -235,7 +241,8 @@ impl Draft {
     fn verdict(self) -> Verdict
         ensures { λ r. ⌜ r ≡ verdictOf self ⌝ }
     {
-        if self.stray {
+        let strays = self.strays;
+        if has_stray(strays) {
             return Verdict::OutOfRange;
         }
         self.drafted.judged()
@@ -265,7 +272,20 @@ impl Verdict {
     }
 }
 
-fn is_listed(at: u16) -> bool
+fn has_stray(strays: [bool; 100]) -> bool
+    ensures { λ r. ⌜ r ≡ any (λ stray. stray) strays ⌝ }
+{
+    let mut i = 0;
+    while i < 100 {
+        if strays[i] {
+            return true;
+        }
+        i += 1;
+    }
+    false
+}
+
+fn is_listed(at: u32) -> bool
     ensures { λ r. ⌜ r ≡ listed at ⌝ }
 {
     (at == 301)

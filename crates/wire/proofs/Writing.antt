@@ -193,6 +193,12 @@ reply {l₀} {l₂ = l₂} {l₃} {ys} {a} {b} {n} p q e h =
 
 -- ---- words in a row
 
+-- two rows whose words have the same bytes, place by place
+pub words-alike : (bytes bytes′ : ℕ → List ℕ) (f g : ℕ → ℕ) (at to n : ℕ) → ((i : ℕ) → i < n → bytes (f (at + i)) ≡ bytes′ (g (to + i))) → words bytes f at n ≡ words bytes′ g to n
+unfolding words
+words-alike bytes bytes′ f g at to zero e = refl
+words-alike bytes bytes′ f g at to (suc n) e = rw (words-alike bytes bytes′ f g at to n (λ i l. e i (omega arith)), e n (omega arith))
+
 pub words-length : (k : ℕ) (bytes : ℕ → List ℕ) (f : ℕ → ℕ) (at n : ℕ) → ((w : ℕ) → length (bytes w) ≡ k) → length (words bytes f at n) ≡ k * n
 unfolding words
 words-length k bytes f at zero e = omega arith
@@ -202,7 +208,7 @@ words-length k bytes f at (suc n) e =
     let m = mul-suc k n in
     simp length-append (omega arith)
 
-two-bytes : (highFirst : Bool) (w : ℕ) → length (word16 highFirst w) ≡ 2
+pub two-bytes : (highFirst : Bool) (w : ℕ) → length (word16 highFirst w) ≡ 2
 two-bytes true w = refl
 two-bytes false w = refl
 

@@ -2,7 +2,7 @@
 use mathlib.Core.Path.{_≡_, refl, sym, ap, ap₂, _∙_}
 use mathlib.Core.Bool.{Bool, true, false, _&&_, _||_, not, cond}
 use mathlib.Core.List.{List, _∷_, _++_, reverse, reverse-append, reverse-reverse}
-use Prim.Native.Nat.{ℕ, zero, suc, _+_, _*_, _≤_}
+use Prim.Native.Nat.{ℕ, _+_, _*_, _≤_}
 use native.Mathlib.Omega.{arith}
 use borrow.Author.Tests.{le-ltb}
 use lib.Dec.{eqb, ltb}
@@ -17,7 +17,7 @@ use Rattle.guard.specs.Table.{chargeOff, dischargeOff}
 use Rattle.readings.specs.declared.Readings.{Readings}
 use Rattle.readings.specs.Readings as readings
 use Rattle.receiver.specs.declared.Receiver.{Receiver}
-use Rattle.receiver.specs.Receiver.{complete, isHeld, filled, taken, offeredOf}
+use Rattle.receiver.specs.Receiver.{complete, isHeld, taken, offeredOf}
 use Rattle.receiver.specs.Heard.{takes, afterHearing}
 use Rattle.receiver.proofs.Heard.{held, is-held, hearing, heard-all, heard-taken, as-many}
 use Rattle.settings.specs.declared.Verdict.{Verdict}
@@ -27,8 +27,9 @@ use Rattle.settings.specs.Settings as settings
 use Rattle.statistics.specs.Statistics.{riddenOf, countedOf, clearedAt}
 use Rattle.pack.specs.declared.Clock.{Clock}
 use Rattle.board.specs.declared.Board.{Board}
+use Rattle.requests.specs.declared.Pair.{Pair}
 use Rattle.requests.specs.declared.Query.{Query}
-use Rattle.requests.specs.declared.Query.the-variants.{Registers, Live, NewEvents, AllEvents, Temperatures, Cells, SettingsOf}
+use Rattle.requests.specs.declared.Query.the-variants.{Registers, Listed, Live, NewEvents, AllEvents, Temperatures, Cells, SettingsOf}
 use Rattle.requests.specs.declared.Refusal.the-variants.{Foreign, Damaged, Against}
 use Rattle.requests.specs.declared.Request.{Request}
 use Rattle.requests.specs.declared.Request.the-variants as request
@@ -39,7 +40,7 @@ use Rattle.hire.specs.Hire.{newHire}
 use Rattle.hire.specs.Tick.{statusFor}
 use Rattle.board.specs.Tick.{tickedOf, tickOf}
 use Rattle.board.specs.Handover.{handedOver, handoverOf}
-use Rattle.requests.specs.Requests.{requestOf, refusalNumber, draftedOf, marks}
+use Rattle.requests.specs.Requests.{requestOf, pairsOf, refusalNumber, draftedOf, marks}
 use Rattle.board.specs.Frames.{tooLong, payloadOf, markedBy, requestNumber, changedBy, requestBoard, frameBoard}
 use Rattle.board.specs.Calls.{Call, tick, frame, handover, offer, fetch, step}
 use Rattle.board.specs.Account.{Deed, took, wrote, cleared, forgot, sent, handed, heard, fetched, drops, sensedOf, settingsAt, secondsAt, clockAt, latchedAt, waitsAt, rememberedAt, sensedAt, windowAt, chargerAt, statusAt, decisionAt, balancingAt, chargeAt, dischargeAt, eventsAt, statisticsAt, heardAt, heldAt, boardAt, asking, calling, deedsOf}
@@ -56,7 +57,8 @@ same b false = refl
 -- a query changes nothing but 0x11's mark, and the reply to 0x11 is never too long
 read : (b : Board) (q : Query) → cond (eqb (cond (tooLong b q) 5 0) 0) (markedBy b q) b ≡ cond (marks q) (withEvents b (sentOf (b .hire .events))) b
 unfolding marks payloadOf
-read b (Registers at n) = same b (tooLong b (Registers at n))
+read b (Registers command at n) = same b (tooLong b (Registers command at n))
+read b (Listed n) = same b (tooLong b (Listed n))
 read b (Live command at n) = same b (tooLong b (Live command at n))
 read b NewEvents = ap (λ (t : Bool). cond (eqb (cond t 5 0) 0) (markedBy b NewEvents) b) (le-ltb 254 (4 + 4 * newCount (b .hire .events)) (omega arith))
 read b AllEvents = same b (tooLong b AllEvents)
@@ -121,9 +123,9 @@ module _ (cells perKm : ℕ) where
     abbrev b : Board
     b = boardAt cells perKm h
 
-    wrote-goes : (s : List ℕ) (from n : ℕ) → withSettings b (draftedOf (settings.draftOf (b .pack .settings)) s from n .drafted) ≡ boardAt cells perKm (wrote s from n ∷ h)
+    wrote-goes : (ps : List Pair) → withSettings b (draftedOf (settings.draftOf (b .pack .settings)) ps .drafted) ≡ boardAt cells perKm (wrote ps ∷ h)
     unfolding boardAt settingsAt clockAt secondsAt latchedAt waitsAt rememberedAt sensedAt windowAt chargerAt statusAt decisionAt balancingAt chargeAt dischargeAt eventsAt statisticsAt heardAt
-    wrote-goes s from n = ap (withSettings b) (sym (written s from n h))
+    wrote-goes ps = ap (withSettings b) (sym (written ps h))
 
     cleared-goes : withStatistics b (clearedAt (b .pack .clock .seconds)) ≡ boardAt cells perKm (cleared ∷ h)
     unfolding boardAt settingsAt clockAt secondsAt latchedAt waitsAt rememberedAt sensedAt windowAt chargerAt statusAt decisionAt balancingAt chargeAt dischargeAt eventsAt statisticsAt heardAt clearedAt
@@ -166,13 +168,13 @@ module _ (cells perKm : ℕ) where
     requested s (request.Refused (Against command)) = refl
     requested s request.ClearEvents = forgot-goes h
     requested s request.ClearStatistics = cleared-goes h
-    requested s (request.Write from n) = go (settings.verdictOf draft)
+    requested s (request.Write f n) = go (settings.verdictOf draft)
       where
         draft : Draft
-        draft = draftedOf (settings.draftOf (settingsAt h)) s from n
+        draft = draftedOf (settings.draftOf (settingsAt h)) (pairsOf f s n)
 
-        go : (v : Verdict) → cond (eqb (settings.numberOf v) 0) (withSettings before (settings.standingOf draft v)) before ≡ boardAt cells perKm (cond (eqb (settings.numberOf v) 0) (wrote s from n ∷ h) h)
-        go Taken = wrote-goes h s from n
+        go : (v : Verdict) → cond (eqb (settings.numberOf v) 0) (withSettings before (settings.standingOf draft v)) before ≡ boardAt cells perKm (cond (eqb (settings.numberOf v) 0) (wrote (pairsOf f s n) ∷ h) h)
+        go Taken = wrote-goes h (pairsOf f s n)
         go OutOfRange = refl
         go OutOfOrder = refl
     requested s (request.Read q) = read before q ∙ go (marks q)

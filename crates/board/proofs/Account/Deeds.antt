@@ -10,9 +10,10 @@ use Rattle.readings.specs.Readings.{judgedOf, numberOf}
 use Rattle.receiver.specs.Receiver.{complete}
 use Rattle.receiver.specs.Heard.{takes}
 use Rattle.settings.specs.declared.Settings.{Settings}
+use Rattle.requests.specs.declared.Form.{Form}
 use Rattle.requests.specs.declared.Request.{Request}
 use Rattle.requests.specs.declared.Request.the-variants as request
-use Rattle.requests.specs.Requests.{requestOf, marks}
+use Rattle.requests.specs.Requests.{requestOf, pairsOf, marks}
 use Rattle.pack.specs.Pack.{usableCount}
 use Rattle.board.specs.Frames.{writeNumber}
 use Rattle.board.specs.Calls.{Call, tick, frame, handover, offer, fetch}
@@ -24,7 +25,7 @@ module _ (P : List Deed → Type 0) (h : List Deed) where
   WhereAsked st s (request.Refused refusal) = Unit {0}
   WhereAsked st s request.ClearEvents = P (forgot ∷ h)
   WhereAsked st s request.ClearStatistics = P (cleared ∷ h)
-  WhereAsked st s (request.Write from n) = eqb (writeNumber st s from n) 0 ≡ true → P (wrote s from n ∷ h)
+  WhereAsked st s (request.Write f n) = eqb (writeNumber st (pairsOf f s n)) 0 ≡ true → P (wrote (pairsOf f s n) ∷ h)
   WhereAsked st s (request.Read q) = P (sent ∷ h)
 
   pub any-asked : P h → (st : Settings) (s : List ℕ) (q : Request) → WhereAsked st s q → P (asking st s q h)
@@ -32,9 +33,9 @@ module _ (P : List Deed → Type 0) (h : List Deed) where
   any-asked none st s (request.Refused refusal) p = none
   any-asked none st s request.ClearEvents p = p
   any-asked none st s request.ClearStatistics p = p
-  any-asked none st s (request.Write from n) p = go (eqb (writeNumber st s from n) 0) refl
+  any-asked none st s (request.Write f n) p = go (eqb (writeNumber st (pairsOf f s n)) 0) refl
     where
-      go : (t : Bool) → eqb (writeNumber st s from n) 0 ≡ t → P (cond t (wrote s from n ∷ h) h)
+      go : (t : Bool) → eqb (writeNumber st (pairsOf f s n)) 0 ≡ t → P (cond t (wrote (pairsOf f s n) ∷ h) h)
       go true e = p e
       go false e = none
   any-asked none st s (request.Read q) p = go (marks q)
@@ -90,7 +91,7 @@ module _ (P : List Deed → Type 0) (h : List Deed) where
 module _ (cells perKm : ℕ) (P : List Deed → Type 0) (same : (d : Deed) (k : List Deed) → row d .ticks ≡ [] → row d .writes ≡ [] → P k → P (d ∷ k)) where
   -- it holds after an accepted tick, and after an accepted write of these bytes
   abbrev pub AfterWrite : List Deed → List ℕ → Type 0
-  AfterWrite h s = (from n : ℕ) → eqb (writeNumber (settingsAt h) s from n) 0 ≡ true → P (wrote s from n ∷ h)
+  AfterWrite h s = (f : Form) (n : ℕ) → eqb (writeNumber (settingsAt h) (pairsOf f s n)) 0 ≡ true → P (wrote (pairsOf f s n) ∷ h)
 
   abbrev pub AfterOne : List Deed → Call → Type 0
   AfterOne h (tick given r) = usableCount cells ≡ true → eqb (numberOf (judgedOf cells perKm (length given) r)) 0 ≡ true → P (took given r ∷ h)
@@ -106,7 +107,7 @@ module _ (cells perKm : ℕ) (P : List Deed → Type 0) (same : (d : Deed) (k : 
       go (request.Refused refusal) = tt
       go request.ClearEvents = same forgot h refl refl p
       go request.ClearStatistics = same cleared h refl refl p
-      go (request.Write from n) = w from n
+      go (request.Write f n) = w f n
       go (request.Read q) = same sent h refl refl p
 
   pub called-so : (h : List Deed) → P h → (c : Call) → AfterOne h c → P (calling cells perKm h c)

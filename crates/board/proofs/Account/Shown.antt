@@ -21,6 +21,7 @@ use Rattle.guard.specs.declared.Condition.{Condition}
 use Rattle.guard.specs.Table.{is, namesCharge, namesDischarge, chargeOff, dischargeOff}
 use Rattle.guard.proofs.Switches.{charge-named, discharge-named, charge-unnamed, discharge-unnamed}
 use Rattle.readings.specs.declared.Readings.{Readings}
+use Rattle.requests.specs.declared.Pair.{Pair}
 use Rattle.settings.specs.Settings as settings
 use Rattle.signed.specs.Signed.{bitsOf, fromBits}
 use Rattle.statistics.specs.Statistics.{distanceOf}
@@ -30,7 +31,7 @@ use Rattle.board.specs.Start.{startBoard}
 use Rattle.board.specs.Calls.{Call}
 use Rattle.board.specs.Behaviour.{afterIn, board}
 use Rattle.board.specs.Demands.{deeds}
-use Rattle.board.specs.Account.{Deed, took, wrote, cleared, forgot, sent, handed, heard, fetched, row, forgets, writing, covers, given, settingsAt, latchedAt, chargeAt, dischargeAt, recordedNow, keptSince, newSince, eventsAt, pulsesAt, statisticsAt, distanceAt, boardAt}
+use Rattle.board.specs.Account.{Deed, took, wrote, cleared, forgot, sent, handed, heard, fetched, row, forgets, writing, names, lastOf, settingsAt, latchedAt, chargeAt, dischargeAt, recordedNow, keptSince, newSince, eventsAt, pulsesAt, statisticsAt, distanceAt, boardAt}
 use Rattle.board.proofs.Account.Settings.{Fits, ranges}
 use Rattle.board.proofs.Demands.Demand2.{account}
 
@@ -67,12 +68,12 @@ distance-shown perKm h held = go (eqb perKm 0) refl
     go true e = refl
     go false e = stopped (pulsesAt h) perKm (omega (arith, eqb-false)) held
 
--- ---- settings: a register reads what the last accepted write that covers it gave it, else its factory value
+-- ---- settings: a register reads what the last accepted write that names it gave it, the later of two values in one write, else its factory value
 
 abbrev pub Reads : ℕ → (ℕ → ℕ) → List Deed → Type 0
 Reads register shown h =
     settings.registerOf (settingsAt h) register
-    ≡ headOr (settings.registerOf settings.factory register) (map (λ w. shown (given register w)) (newest (covers register) (each writing (since never h))))
+    ≡ lastOf (settings.registerOf settings.factory register) register shown (each writing (since never h))
 
 -- 320 is signed; of sixteen bits, it reads them
 pub same-bits : (v : ℕ) → v < 65536 → bitsOf (fromBits v) ≡ v
@@ -81,11 +82,11 @@ same-bits v h = ofZ-toZ w16 v (record { fits = h })
 
 pub reads-back : (h : List Deed) → Reads 301 (λ v. v) h × Reads 303 (λ v. v) h × Reads 308 (λ v. v) h × Reads 315 (λ v. v) h × Reads 316 (λ v. v) h × Reads 317 (λ v. v) h × Reads 318 (λ v. v) h × Reads 319 (λ v. v) h × Reads 320 (λ v. bitsOf (fromBits v)) h × Reads 332 (λ v. v) h × Reads 334 (λ v. v) h × Reads 335 (λ v. v) h
 unfolding settings.registerOf settingsAt
-reads-back h = (refl, refl, refl, refl, refl, refl, refl, refl, inside (newest (covers 320) (each writing (since never h))), refl, refl, refl)
+reads-back h = (refl, refl, refl, refl, refl, refl, refl, refl, inside (newest (names 320) (each writing (since never h))), refl, refl, refl)
   where
-    inside : (ws : List (List ℕ × ℕ × ℕ)) → bitsOf (headOr (settings.factory .r320) (map (λ w. fromBits (given 320 w)) ws)) ≡ headOr (bitsOf (settings.factory .r320)) (map (λ w. bitsOf (fromBits (given 320 w))) ws)
+    inside : (ps : List Pair) → bitsOf (headOr (settings.factory .r320) (map (λ p. fromBits (p .value)) ps)) ≡ headOr (bitsOf (settings.factory .r320)) (map (λ p. bitsOf (fromBits (p .value))) ps)
     inside [] = refl
-    inside (w ∷ ws) = refl
+    inside (p ∷ ps) = refl
 
 -- ---- switches: as the table says at every tick
 
@@ -113,7 +114,7 @@ pub charge-off : (h : List Deed) (c : Condition) → is (latchedAt h) c ≡ true
 unfolding chargeAt latchedAt
 charge-off [] c p q = refl
 charge-off (took cells r ∷ h) c p q = ap (λ t. r .charger && not t) (charge-named (latchedAt (took cells r ∷ h)) c p q) ∙ and-false (r .charger)
-charge-off (wrote s from n ∷ h) c p q = charge-off h c p q
+charge-off (wrote ps ∷ h) c p q = charge-off h c p q
 charge-off (cleared ∷ h) c p q = charge-off h c p q
 charge-off (forgot ∷ h) c p q = charge-off h c p q
 charge-off (sent ∷ h) c p q = charge-off h c p q
@@ -125,7 +126,7 @@ pub discharge-off : (h : List Deed) (c : Condition) → is (latchedAt h) c ≡ t
 unfolding dischargeAt latchedAt
 discharge-off [] c p q = refl
 discharge-off (took cells r ∷ h) c p q = ap (λ t. not t && (eqb (settingsAt h .r334) 0 || r .ignition)) (discharge-named (latchedAt (took cells r ∷ h)) c p q)
-discharge-off (wrote s from n ∷ h) c p q = discharge-off h c p q
+discharge-off (wrote ps ∷ h) c p q = discharge-off h c p q
 discharge-off (cleared ∷ h) c p q = discharge-off h c p q
 discharge-off (forgot ∷ h) c p q = discharge-off h c p q
 discharge-off (sent ∷ h) c p q = discharge-off h c p q

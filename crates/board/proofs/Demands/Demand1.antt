@@ -3,8 +3,8 @@
 -- Assumes nothing.
 use mathlib.Core.Path.{_≡_, refl, sym, ap, ap₂, _∙_, subst, subst⁻¹}
 use mathlib.Core.Bool.{Bool, true, false, _||_, not, cond, false≢true}
-use mathlib.Core.List.{List, [], _∷_, _++_}
-use Prim.Native.Nat.{ℕ, _+_, _-_, _≤_}
+use mathlib.Core.List.{List, []}
+use Prim.Native.Nat.{ℕ, _-_, _≤_}
 use native.Mathlib.Nat.{sub-zero}
 use native.Mathlib.Omega.{arith}
 use borrow.Author.Tests.{eqb-true, ltb-false}
@@ -33,9 +33,9 @@ use Rattle.board.specs.Tick.{tickOf, tickedOf}
 use Rattle.pack.specs.Pack.{usableCount, newPack, tickNumber}
 use Rattle.board.specs.Start.{startBoard}
 use Rattle.board.specs.Handover.{handoverOf, handedOver}
-use Rattle.requests.specs.Requests.{le16At, askedOf, requestOf, refusalNumber, commandOf, writtenTo}
-use Rattle.wire.specs.Wire.{be16, sealed, padded, nackOf}
-use Rattle.board.specs.Frames.{bodyOf, tooLong, requestNumber, changedBy, requestBoard, refusalReply, writeReply, queryReply, requestReply, frameNumber, frameBoard, frameReply}
+use Rattle.requests.specs.Requests.{le16At, askedOf, requestOf, pairsOf, writeCommand, refusalNumber, commandOf, writtenTo}
+use Rattle.wire.specs.Wire.{sealed, padded, nackOf}
+use Rattle.board.specs.Frames.{bodyOf, tooLong, requestNumber, changedBy, requestBoard, refusalReply, takenReply, writeReply, queryReply, requestReply, frameNumber, frameBoard, frameReply}
 use Rattle.board.specs.Calls.{Call, Seen, step, tick, frame, handover, offer, fetch}
 use Rattle.board.specs.Behaviour.{Behaviour, board, afterIn, answersIn}
 use Rattle.board.specs.Account.{Deed, settingsAt, heardAt, heldAt, boardAt}
@@ -67,7 +67,7 @@ nacked-number b s (request.Refused (Damaged command)) h k = refl
 nacked-number b s (request.Refused (Against command)) h k = refl
 nacked-number b s request.ClearEvents h k = absurd (h refl)
 nacked-number b s request.ClearStatistics h k = absurd (h refl)
-nacked-number b s (request.Write from n) h k = go (writtenTo (b .pack .settings) s from n .verdict) h
+nacked-number b s (request.Write f n) h k = go (writtenTo (b .pack .settings) (pairsOf f s n) .verdict) h
   where
     go : (v : Verdict) → (settings.numberOf v ≡ 0 → ⊥) → (eqb (settings.numberOf v) 3 || eqb (settings.numberOf v) 4 || eqb (settings.numberOf v) 5) ≡ true
     go Taken h = absurd (h refl)
@@ -135,16 +135,16 @@ request-leaves b s room (request.Refused (Damaged command)) e h = nacked command
 request-leaves b s room (request.Refused (Against command)) e h = nacked command (getD s 1 0) 0x00 room e
 request-leaves b s room request.ClearEvents e h = absurd (h refl)
 request-leaves b s room request.ClearStatistics e h = absurd (h refl)
-request-leaves b s room (request.Write from n) e h = go (writtenTo (b .pack .settings) s from n .verdict) (0xAA ∷ 0x10 ∷ be16 (300 + from) ++ be16 n) h
+request-leaves b s room (request.Write f n) e h = go (writtenTo (b .pack .settings) (pairsOf f s n) .verdict) (takenReply f s n) h
   where
     go : (v : Verdict) (xs : List ℕ) → (settings.numberOf v ≡ 0 → ⊥)
-        → padded room (sealed (cond (eqb (settings.numberOf v) 0) xs (nackOf 0x10 0x00))) ≡ refusedBuffer (settings.numberOf v) s room
+        → padded room (sealed (cond (eqb (settings.numberOf v) 0) xs (nackOf (writeCommand f) 0x00))) ≡ refusedBuffer (settings.numberOf v) s room
     go Taken xs h = absurd (h refl)
-    go OutOfRange xs h = nacked 0x10 (getD s 1 0) 0x00 room e
-    go OutOfOrder xs h = nacked 0x10 (getD s 1 0) 0x00 room e
+    go OutOfRange xs h = nacked (writeCommand f) (getD s 1 0) 0x00 room e
+    go OutOfOrder xs h = nacked (writeCommand f) (getD s 1 0) 0x00 room e
 request-leaves b s room (request.Read q) e h = go (tooLong b q) h
   where
-    go : (t : Bool) → (_≡_ {A = ℕ} (cond t 5 0) 0 → ⊥) → padded room (sealed (cond t (nackOf (commandOf q) 0x00) (bodyOf b q))) ≡ refusedBuffer (cond t 5 0) s room
+    go : (t : Bool) → (_≡_ {A = ℕ} (cond t 5 0) 0 → ⊥) → padded room (sealed (cond t (nackOf (commandOf q) 0x00) (bodyOf b s q))) ≡ refusedBuffer (cond t 5 0) s room
     go true h = nacked (commandOf q) (getD s 1 0) 0x00 room e
     go false h = absurd (h refl)
 
@@ -164,7 +164,7 @@ asked-number b s (request.Refused (Damaged command)) e = absurd (false≢true e)
 asked-number b s (request.Refused (Against command)) e = refl
 asked-number b s request.ClearEvents e = refl
 asked-number b s request.ClearStatistics e = refl
-asked-number b s (request.Write from n) e = go (writtenTo (b .pack .settings) s from n .verdict)
+asked-number b s (request.Write f n) e = go (writtenTo (b .pack .settings) (pairsOf f s n) .verdict)
   where
     go : (v : Verdict) → settings.numberOf v ≡ cond (not (eqb (settings.numberOf v) 0)) 4 0
     go Taken = refl

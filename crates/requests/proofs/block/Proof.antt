@@ -1,6 +1,6 @@
 -- The code's test is the definition's. Assumes nothing.
-use borrow.Author.Needs.{needs}
 use Rattle.requests.specs.Requests.{blockOf}
+use borrow.Author.Needs.{needs}
 use Rattle.requests.proofs.block.Statement.{statement}
 use Rattle.requests.proofs.block.Tie as tie
 

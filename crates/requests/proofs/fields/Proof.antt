@@ -1,6 +1,6 @@
 -- By cases on the command, each arm's calls against its line of the definition. Assumes nothing.
-use borrow.Author.Needs.{needs}
 use Rattle.requests.specs.Requests.{fieldsOf}
+use borrow.Author.Needs.{needs}
 use Rattle.requests.proofs.fields.Statement.{statement}
 use Rattle.requests.proofs.fields.Tie as tie
 
@@ -31,26 +31,41 @@ block-requires c κs = search needs
 enum-told-3 : tie.Need-enum-told-3
 enum-told-3 c = search needs
 
-high-first-at-requires-2 : tie.Need-high-first-at-requires-2
-high-first-at-requires-2 c κs = search needs
+low-first-at-requires : tie.Need-low-first-at-requires
+low-first-at-requires c κs = search needs
 
 byte-at-requires-4 : tie.Need-byte-at-requires-4
 byte-at-requires-4 c κs = search needs
 
+block-requires-2 : tie.Need-block-requires-2
+block-requires-2 c κs = search needs
+
+enum-told-4 : tie.Need-enum-told-4
+enum-told-4 c = search needs
+
 byte-at-requires-5 : tie.Need-byte-at-requires-5
 byte-at-requires-5 c κs = search needs
 
-byte-at-requires-6 : tie.Need-byte-at-requires-6
-byte-at-requires-6 c κs = search needs
-
-write-requires : tie.Need-write-requires
-write-requires c κs = search needs
+list-requires : tie.Need-list-requires
+list-requires c κs = search needs
 
 enum-known-command : tie.Need-enum-known-command
 enum-known-command c = search needs
 
-enum-told-4 : tie.Need-enum-told-4
-enum-told-4 c = search needs
+count-of-requires : tie.Need-count-of-requires
+count-of-requires c κs = search needs
+
+write-requires : tie.Need-write-requires
+write-requires c κs = search needs
+
+enum-known-command-2 : tie.Need-enum-known-command-2
+enum-known-command-2 c = search needs
+
+enum-told-5 : tie.Need-enum-told-5
+enum-told-5 c = search needs
+
+byte-at-requires-6 : tie.Need-byte-at-requires-6
+byte-at-requires-6 c κs = search needs
 
 byte-at-requires-7 : tie.Need-byte-at-requires-7
 byte-at-requires-7 c κs = search needs
@@ -58,14 +73,11 @@ byte-at-requires-7 c κs = search needs
 byte-at-requires-8 : tie.Need-byte-at-requires-8
 byte-at-requires-8 c κs = search needs
 
-byte-at-requires-9 : tie.Need-byte-at-requires-9
-byte-at-requires-9 c κs = search needs
-
 settings-of-requires : tie.Need-settings-of-requires
 settings-of-requires c κs = search needs
 
-enum-told-5 : tie.Need-enum-told-5
-enum-told-5 c = search needs
+enum-told-6 : tie.Need-enum-told-6
+enum-told-6 c = search needs
 
 returns : tie.Need-returns
 unfolding fieldsOf
@@ -77,19 +89,27 @@ returns-2 c = rw (c .before .before .before .before .enum-told2 .given .1) cc
 
 returns-3 : tie.Need-returns-3
 unfolding fieldsOf
-returns-3 c = rw (c .before .before .before .before .before .enum-told3 .given .1) cc
+returns-3 c = rw (c .before .before .before .enum-told3 .given .1) cc
 
 returns-4 : tie.Need-returns-4
 unfolding fieldsOf
-returns-4 c = rw (c .before .command .given .1)
+returns-4 c = rw (c .before .before .enum-told4 .given .1) cc
 
 returns-5 : tie.Need-returns-5
 unfolding fieldsOf
-returns-5 c = rw (c .before .before .before .before .enum-told4 .given .1) cc
+returns-5 c = rw (c .before .before .before .command .given .1) cc
 
 returns-6 : tie.Need-returns-6
 unfolding fieldsOf
-returns-6 c = rw (c .enum-told5 .given .1)
+returns-6 c = rw (c .before .command2 .given .1)
+
+returns-7 : tie.Need-returns-7
+unfolding fieldsOf
+returns-7 c = rw (c .before .before .before .before .enum-told5 .given .1) cc
+
+returns-8 : tie.Need-returns-8
+unfolding fieldsOf
+returns-8 c = rw (c .enum-told6 .given .1)
 
 pub fields-spec : {M : Type 1} → statement M
 fields-spec =
@@ -104,21 +124,27 @@ fields-spec =
     byte-at-requires-3
     block-requires
     enum-told-3
-    high-first-at-requires-2
+    low-first-at-requires
     byte-at-requires-4
-    byte-at-requires-5
-    byte-at-requires-6
-    write-requires
-    enum-known-command
+    block-requires-2
     enum-told-4
+    byte-at-requires-5
+    list-requires
+    enum-known-command
+    count-of-requires
+    write-requires
+    enum-known-command-2
+    enum-told-5
+    byte-at-requires-6
     byte-at-requires-7
     byte-at-requires-8
-    byte-at-requires-9
     settings-of-requires
-    enum-told-5
+    enum-told-6
     returns
     returns-2
     returns-3
     returns-4
     returns-5
-    returns-6)
+    returns-6
+    returns-7
+    returns-8)

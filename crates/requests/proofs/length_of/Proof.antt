@@ -1,36 +1,26 @@
--- The length that the command expects, of the second byte and the seventh. Assumes nothing.
-use mathlib.Core.Path.{_≡_, ap, ap₂, _∙_}
+-- The length that the command expects, the second byte. Assumes nothing.
+use mathlib.Core.Path.{_≡_, ap, _∙_}
 use mathlib.Core.List.{List}
-use Prim.Native.Nat.{ℕ, _≤_}
-use native.Mathlib.Omega.{arith}
+use Prim.Native.Nat.{ℕ}
 use lib.ListN.{getD}
-use borrow.Author.Needs.{needs}
 use Rattle.requests.specs.declared.Expected.{Expected}
-use Rattle.requests.specs.Requests.{expectedOf, lengthOf}
-use Rattle.requests.proofs.Sound.{long}
+use Rattle.requests.specs.Requests.{expectedBy, lengthOf}
+use borrow.Author.Needs.{needs}
 use Rattle.requests.proofs.length_of.Statement.{statement}
 use Rattle.requests.proofs.length_of.Tie as tie
 
-told : (s : List ℕ) {command pl : ℕ} {e : Expected} → command ≡ getD s 1 0 → pl ≡ getD s 6 0 → e ≡ expectedOf command pl → e .length ≡ lengthOf s
+told : (s : List ℕ) {command : ℕ} {e : Expected} → command ≡ getD s 1 0 → e ≡ expectedBy command s → e .length ≡ lengthOf s
 unfolding lengthOf
-told s p q f = ap (λ (x : Expected). x .length) (f ∙ ap₂ expectedOf p q)
+told s p q = ap (λ (x : Expected). x .length) (q ∙ ap (λ (k : ℕ). expectedBy k s) p)
 
 byte-at-requires : tie.Need-byte-at-requires
 byte-at-requires c κs = search needs
 
-byte-at-requires-2 : tie.Need-byte-at-requires-2
-byte-at-requires-2 c κs = search needs
-
-expected-of-requires : tie.Need-expected-of-requires
-expected-of-requires c κs = search needs
+expected-by-requires : tie.Need-expected-by-requires
+expected-by-requires c κs = search needs
 
 returns : tie.Need-returns
-returns c =
-    let second = c .before in
-    let fits : second .byte-at2 .result ≤ 255 = search needs in
-    let bound = long (second .before .byte-at .result) (second .byte-at2 .result) .1 in
-    (told _ (second .before .byte-at .ensures) (second .byte-at2 .ensures) (c .expected-of .ensures), rw (c .expected-of .ensures) (omega arith))
+returns c = (told _ (c .before .byte-at .ensures) (c .expected-by .ensures .0), c .expected-by .ensures .1)
 
 pub length-of-spec : {M : Type 1} → statement M
-length-of-spec =
-    tie.close (tie.spec byte-at-requires byte-at-requires-2 expected-of-requires returns)
+length-of-spec = tie.close (tie.spec byte-at-requires expected-by-requires returns)

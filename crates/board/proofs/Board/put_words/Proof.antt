@@ -2,6 +2,7 @@
 use mathlib.Core.Path.{_≡_}
 use Prim.Native.Nat.{_≤_, _-_}
 use native.Mathlib.Omega.{arith}
+use denote.Ref.{now}
 use Rattle.wire.specs.Wire.{word16, words, Wrote}
 use Rattle.board.specs.Replies.{wordOf}
 use Rattle.wire.proofs.Writing.{none, same, words-more}
@@ -10,10 +11,10 @@ use Rattle.board.proofs.Board.put_words.Statement.{statement}
 use Rattle.board.proofs.Board.put_words.Tie as tie
 
 abbrev Inv-loop : tie.InvT-loop
-Inv-loop self query from count reply₀ high-first i₀ reply i = (i ≤ count) × Wrote reply₀ from (words (word16 high-first) (wordOf self query) 0 i) reply
+Inv-loop self request query from count reply₀ high-first i₀ reply i = (i ≤ count) × Wrote reply₀ from (words (word16 high-first) (wordOf self request query) 0 i) reply
 
 abbrev μ-loop : tie.MeasureT-loop
-μ-loop self query from count reply₀ high-first i₀ reply i = count - i
+μ-loop self request query from count reply₀ high-first i₀ reply i = count - i
 
 high-first-requires : tie.Need-high-first-requires Inv-loop μ-loop
 high-first-requires c κs = search needs
@@ -49,8 +50,8 @@ loop-again c =
     let word = put .before .before in
     let at = word .before .before in
     let high = at .before in
-    let args = high .before .before .args in
-    (search needs, words-more (high .high-first .result) (wordOf (args .self) (args .query)) (at .loop .i) _ (at .loop .inv .1) (put .put-word .ensures) (word .word .ensures) (search needs))
+    let args = high .before .before .before .args in
+    (search needs, words-more (high .high-first .result) (wordOf (args .self) (now (args .request)) (args .query)) (at .loop .i) _ (at .loop .inv .1) (put .put-word .ensures) (word .word .ensures) (search needs))
 
 same-length : tie.Need-same-length Inv-loop μ-loop
 same-length c = search (same, needs)
@@ -58,7 +59,7 @@ same-length c = search (same, needs)
 returns : tie.Need-returns Inv-loop μ-loop
 returns c =
     let at = c .before in
-    let all : at .loop .i ≡ at .before .before .before .args .count = omega arith in
+    let all : at .loop .i ≡ at .before .before .before .before .args .count = omega arith in
     rw (← at .before .high-first .ensures, ← all) (at .loop .inv .1)
 
 pub put-words-spec : {M : Type 1} → statement M

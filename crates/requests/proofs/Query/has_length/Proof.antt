@@ -15,7 +15,7 @@ unfolding hasLength
 returns c = rw (c .enum-told .given .1)
 
 returns-2 : tie.Need-returns-2
-returns-2 c = rw (by-tag (c .before .args .self) .0, others (0 ∷ 2 ∷ 3 ∷ 4 ∷ 5 ∷ 6 ∷ []) 1 _ (c .match .keys2) tt)
+returns-2 c = rw (by-tag (c .before .args .self) .0, others (0 ∷ 1 ∷ 3 ∷ 4 ∷ 5 ∷ 6 ∷ 7 ∷ []) 2 _ (c .match .keys2) tt)
 
 pub has-length-spec : {M : Type 1} → statement M
 has-length-spec = tie.close (tie.spec enum-told returns returns-2)

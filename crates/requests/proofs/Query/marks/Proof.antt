@@ -15,7 +15,7 @@ unfolding marks
 returns c = rw (c .enum-told .given .1)
 
 returns-2 : tie.Need-returns-2
-returns-2 c = rw (by-tag (c .before .args .self) .2, others (0 ∷ 1 ∷ 3 ∷ 4 ∷ 5 ∷ 6 ∷ []) 2 _ (c .match .keys2) tt)
+returns-2 c = rw (by-tag (c .before .args .self) .2, others (0 ∷ 1 ∷ 2 ∷ 4 ∷ 5 ∷ 6 ∷ 7 ∷ []) 3 _ (c .match .keys2) tt)
 
 pub marks-spec : {M : Type 1} → statement M
 marks-spec = tie.close (tie.spec enum-told returns returns-2)

@@ -1,0 +1,50 @@
+/* What scripts of calls are made with: the script so far, with its own board beside it, and requests made by chance. */
+#ifndef SCRIPT_H
+#define SCRIPT_H
+
+#include "chance.h"
+#include "console.h"
+
+/* What a sensor is for some ticks of a run around OT. */
+enum heat { COOL, WARM, HOT, UNPLUGGED };
+
+struct script {
+    uint64_t chance;
+    struct board board;
+    bool charger, ignition;
+    int unstarted;              /* calls left before the first start may come */
+    int quiet;                  /* ticks left of a quiet run */
+    int around_OT;              /* ticks left of a run around OT */
+    enum heat internal, external[2];    /* in that run */
+    int quick_commands;         /* so many requests of 100 are of W-202 */
+    int reads_of_events;        /* one other request in so many is 0x11 */
+    uint8_t waiting[3 * MOST_BYTES];    /* bytes on the raw line that are still to be offered */
+    size_t waiting_length;
+    char line[LONGEST_LINE + 100];
+    size_t length;
+};
+
+struct request {
+    uint8_t bytes[MOST_BYTES + 4];
+    size_t length;
+};
+
+static inline int r(const struct script *script, unsigned number)
+{
+    return read_setting(&script->board.settings, number);
+}
+
+/* The end of a range of registers, a number next to one, or one between. */
+int pick_end(struct script *script);
+
+void add(struct request *request, int byte);
+
+/* Requests with their CRC: of any kind, right or against a rule; as long as a PL says; as an app sends them. */
+void ask(struct script *script, struct request *request);
+void ask_by_PL(struct script *script, struct request *request);
+void ask_as_app(struct script *script, struct request *request);
+
+/* Faults of the frame itself: CRC, first byte, length. */
+void spoil(struct script *script, struct request *request);
+
+#endif
