@@ -2,7 +2,8 @@
 -- capacity.
 -- Assumes nothing.
 use mathlib.Core.Path.{_≡_, refl, sym, ap, ap₂, _∙_}
-use mathlib.Core.Bool.{Bool, true, false, _||_, not, cond, or-false, or-assoc, Bool·not-not}
+use mathlib.Core.Bool.{Bool, true, false, _||_, not, cond, or-false, or-assoc}
+use borrow.Author.Tests.{not-true, not-false}
 use lib.Dec.{eqb}
 use mathlib.Core.List.{List, [], _∷_, _++_, append-assoc, append-nil}
 use Prim.Native.Nat.{ℕ, zero, suc, _+_, _*_, _-_, _≤_, _<_}
@@ -157,14 +158,11 @@ pub none-used : {rs : List Event} → Used rs 0
 none-used {rs} = record { so-far = sym (zero-add (length (usedOf rs))) }
 
 -- where `t` says of the record r at the place whether it is used
-still : (t : Bool) {s : Bool} → not t ≡ s → t ≡ not s
-still t e = sym (Bool·not-not t) ∙ ap not e
-
 pub one-used : {rs : List Event} {i : ℕ} {r : Event} {t : Bool} → Used rs i → i < length rs → r ≡ placed rs i → t ≡ used r → not t ≡ false → Used rs (i + 1)
 unfolding usedOf
 one-used {rs} {i} {r} {t} u h q k e =
     let m = u .so-far ∙ ap (λ (l : List Event). i + length (usedOf l)) (drop-cons rs i noEvent h) in
-    let n = ap (λ (t : Bool). i + length (cond t (placed rs i ∷ usedOf (drop (suc i) rs)) [])) (ap used (sym q) ∙ sym k ∙ still t e) in
+    let n = ap (λ (t : Bool). i + length (cond t (placed rs i ∷ usedOf (drop (suc i) rs)) [])) (ap used (sym q) ∙ sym k ∙ not-false t e) in
     record { so-far = m ∙ n ∙ ap (λ (k : ℕ). i + suc (length (usedOf (drop k rs)))) (sym (add-one i)) ∙ omega arith }
 
 -- an unused one ends them, and so does the end
@@ -172,7 +170,7 @@ pub ended-used : {rs : List Event} {i : ℕ} {r : Event} {t : Bool} → Used rs 
 unfolding usedOf
 ended-used {rs} {i} {r} {t} u h q k e =
     let m = u .so-far ∙ ap (λ (l : List Event). i + length (usedOf l)) (drop-cons rs i noEvent h) in
-    let n = ap (λ (t : Bool). i + length (cond t (placed rs i ∷ usedOf (drop (suc i) rs)) [])) (ap used (sym q) ∙ sym k ∙ still t e) in
+    let n = ap (λ (t : Bool). i + length (cond t (placed rs i ∷ usedOf (drop (suc i) rs)) [])) (ap used (sym q) ∙ sym k ∙ not-true t e) in
     sym (m ∙ n ∙ add-zero i)
 
 pub all-used : {rs : List Event} {i : ℕ} → Used rs i → i ≡ length rs → i ≡ length (usedOf rs)

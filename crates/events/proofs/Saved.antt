@@ -194,6 +194,14 @@ module _ (e : Events) (long : length (e .list) ≡ capacity) (recorded : any nev
 
 -- ---- a load followed by a save
 
+-- there are no more of them than records
+pub few-events : (area : List ℕ) → length (eventsIn area) ≤ capacity
+few-events area =
+    let m = ap length (used-first (recordsIn area)) in
+    let n = length-take (length (eventsIn area)) (recordsIn area) in
+    let k = length-in area in
+    omega arith
+
 module _ (area : List ℕ) (done : loadNumber area ≡ 0) where
   accepted : (length area ≡ areaLength) × (parted (recordsIn area) ≡ false)
   unfolding loadNumber
@@ -204,19 +212,12 @@ module _ (area : List ℕ) (done : loadNumber area ≡ 0) where
       go true q false e = (eqb-true (length area) areaLength q, refl)
       go false q u e = let z : _≡_ {A = ℕ} 31 0 = e in absurd (omega arith)
 
-  pub few-events : length (eventsIn area) ≤ capacity
-  few-events =
-      let m = ap length (used-first (recordsIn area)) in
-      let n = length-take (length (eventsIn area)) (recordsIn area) in
-      let k = length-in area in
-      omega arith
-
   pub load-save : Bytes area → (f : Events) → areaOf (loadOf f area .events) ≡ area
   unfolding areaOf loadOf
   load-save b f =
       let es = eventsIn area in
       ap (λ (n : ℕ). areaOf (cond (eqb n 0) (listOf es) f)) done
-      ∙ ap (λ (ks : List Event). each recordOf (ks ++ replicate (capacity - length ks) noRecord)) (listed-kept es few-events)
+      ∙ ap (λ (ks : List Event). each recordOf (ks ++ replicate (capacity - length ks) noRecord)) (listed-kept es (few-events area))
       ∙ ap (λ (n : ℕ). each recordOf (es ++ replicate (n - length es) noRecord)) (sym (length-in area))
       ∙ ap (each recordOf) (unused-rest (recordsIn area) (accepted .1))
       ∙ area-back area b (accepted .0)
