@@ -46,21 +46,25 @@ kept-shown h =
     ∙ latest-taken capacity (min capacity (length (keptSince h))) noEvent (keptSince h) (omega arith) (omega arith)
     ∙ ap reverse (take-min capacity (keptSince h))
 
+-- the new ones are the newest of those
+pub newest-kept : (h : List Deed) → (older : List Event) × (keptSince h ≡ newSince h ++ older)
+newest-kept h =
+    let older = sooner forgets (λ d. row d .sends) recordedNow h in
+    let before = reverse (loading (from forgets h)) in
+    (older .0 ++ before, ap (λ (es : List Event). es ++ before) (older .1) ∙ append-assoc (newSince h) (older .0) before)
+
 pub new-shown : (h : List Deed) → newOf (eventsAt h) ≡ reverse (take capacity (newSince h))
 unfolding eventsAt latest
 new-shown h =
-    let older = sooner forgets (λ d. row d .sends) recordedNow h in
+    let older = newest-kept h in
     let us = newSince h in
     let some = min capacity (length us) in
-    let before = older .0 ++ reverse (loading (from forgets h)) in
-    let parts : keptSince h ≡ us ++ before =
-    ap (λ (es : List Event). es ++ reverse (loading (from forgets h))) (older .1) ∙ append-assoc us (older .0) (reverse (loading (from forgets h))) in
-    let all : length (keptSince h) ≡ length us + length before = ap length parts ∙ length-append us before in
+    let all : length (keptSince h) ≡ length us + length (older .0) = ap length (older .1) ∙ length-append us (older .0) in
     let n : min (min capacity (min capacity (length (keptSince h)))) some ≡ some = omega arith in
     ap (λ n. latest n (eventsAt h)) n
     ∙ latest-taken capacity some noEvent (keptSince h) (omega arith) (omega arith)
-    ∙ ap (λ (es : List Event). reverse (take some es)) parts
-    ∙ ap reverse (take-append-le some us before (omega arith) ∙ take-min capacity us)
+    ∙ ap (λ (es : List Event). reverse (take some es)) (older .1)
+    ∙ ap reverse (take-append-le some us (older .0) (omega arith) ∙ take-min capacity us)
 
 -- ---- distance: exact since the clear, rounded once
 
