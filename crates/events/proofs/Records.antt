@@ -3,13 +3,13 @@
 -- Assumes nothing.
 use mathlib.Core.Path.{_≡_, refl, sym, ap, ap₂, _∙_}
 use mathlib.Core.Bool.{Bool, true, false, _||_, not, cond, or-false, or-assoc}
-use borrow.Author.Tests.{not-true, not-false}
-use lib.Dec.{eqb}
 use mathlib.Core.List.{List, [], _∷_, _++_, append-assoc, append-nil}
 use Prim.Native.Nat.{ℕ, zero, suc, _+_, _*_, _-_, _≤_, _<_}
 use native.Mathlib.Nat.{not-suc-le-zero, add-zero, zero-add}
 use native.Mathlib.Numerals.{add-one}
 use native.Mathlib.Omega.{arith}
+use borrow.Author.Tests.{not-true, not-false}
+use lib.Dec.{eqb}
 use lib.ListN.{length, take, drop, getD, set, replicate, length-append, length-drop, length-replicate, replicate-append-replicate, drop-of-length-le, getD-replicate, List·getD-append}
 use lib.Seq.{sets, sets-eq, length-sets, take-suc, take-all, take-at, drop-append-add, drop-drop, drop-cons, getD-append-add, length-take-le, set-at, append-snoc}
 use Rattle.laws.specs.History.{each, any}

@@ -3,19 +3,19 @@
 -- Assumes nothing.
 use mathlib.Core.Path.{_≡_, refl, sym, ap, ap₂, _∙_}
 use mathlib.Core.Bool.{Bool, true, false, _&&_, not, cond, false≢true}
-use mathlib.Core.List.{List, [], _∷_, _++_, append-assoc, append-nil}
+use mathlib.Core.List.{List, [], _∷_, _++_, append-assoc}
 use Prim.Native.Nat.{ℕ, zero, suc, _+_, _*_, _-_, _/_, _%_, _≤_, _<_, min}
 use native.Mathlib.Omega.{arith}
 use native.Mathlib.Nat.{zero-add, add-zero, sub-zero, suc-sub-suc}
 use borrow.Author.Tests.{eqb-true}
 use lib.Dec.{eqb}
-use lib.ListN.{length, take, drop, getD, replicate, length-append, length-replicate, length-take, drop-of-length-le}
-use lib.Seq.{take-all, drop-cons, drop-at, getD-append-add}
+use lib.ListN.{length, drop, getD, replicate, length-append, length-replicate, length-take, drop-of-length-le}
+use lib.Seq.{drop-cons, drop-at, getD-append-add}
 use Rattle.laws.specs.History.{each, any}
 use Rattle.events.specs.declared.Event.{Event}
 use Rattle.events.specs.declared.Events.{Events}
-use Rattle.events.specs.Events.{capacity, noEvent, latest, keptCount, keptOf, newOf, sentOf}
-use Rattle.events.specs.Memory.{areaLength, noArea, recordOf, eventIn, noRecord, used, savedOf, areaOf, recordsAt, recordsIn, usedOf, parted, isRecorded, neverRecorded, strange, recordsNumber, loadNumber, listOf, eventsIn, loadOf}
+use Rattle.events.specs.Events.{capacity, noEvent, latest, keptOf, newOf}
+use Rattle.events.specs.Memory.{areaLength, recordOf, eventIn, noRecord, used, savedOf, areaOf, recordsAt, recordsIn, usedOf, parted, isRecorded, neverRecorded, strange, recordsNumber, loadNumber, listOf, eventsIn, loadOf}
 use Rattle.events.proofs.Records.{length-kept, length-saved, length-each, length-in, used-first, numbered}
 
 -- ---- a record and its four bytes

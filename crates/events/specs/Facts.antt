@@ -1,14 +1,13 @@
 -- 49 events keep the latest 48; 0x11's mark; event time past 2^24 seconds; saved areas, and areas damaged in each way: computed.
 -- Assumes nothing.
 use mathlib.Core.Path.{_≡_, refl}
-use mathlib.Core.Bool.{true, false}
 use mathlib.Core.List.{List, [], _∷_, _++_}
-use Prim.Native.Nat.{ℕ, zero, suc, _+_, _*_, _-_, _%_}
+use Prim.Native.Nat.{ℕ, zero, suc, _+_, _-_, _%_}
 use native.Mathlib.Omega.{arith}
 use lib.ListN.{length, take, drop, replicate}
 use Rattle.laws.specs.Fold.{shifted}
 use Rattle.events.specs.declared.Events.{Events}
-use Rattle.events.specs.Memory.{areaLength, areaOf, isRecorded, recordsIn, usedOf, parted, loadNumber, listOf, eventsIn, loadOf}
+use Rattle.events.specs.Memory.{areaLength, areaOf, isRecorded, recordsIn, usedOf, parted, loadNumber, eventsIn, loadOf}
 use Rattle.events.specs.Events.{capacity, eventAt, timeOf, numberOf, latest, keptOf, newOf, noEvents, addOf, sentOf, placed}
 
 -- n events, the k-th with the number k and k seconds

@@ -1,10 +1,10 @@
 -- W-205: the event numbers that a load takes are exactly those that ticks record, so the kept events of every board reached from a start have such
 -- numbers; a save followed by a load gives the same list with everything marked as sent, and a load followed by a save gives the area back.
 -- Assumes nothing.
-use mathlib.Core.Path.{_≡_, refl, sym, ap, ap₂, _∙_, subst, subst⁻¹}
+use mathlib.Core.Path.{_≡_, refl, sym, ap, _∙_, subst⁻¹}
 use mathlib.Core.Bool.{Bool, true, false, _&&_, not, cond, false≢true}
 use mathlib.Core.List.{List, [], _∷_, _++_, map, reverse, append-nil, append-assoc}
-use Prim.Native.Nat.{ℕ, zero, suc, _+_, _*_, _-_, _≤_, _<_, min}
+use Prim.Native.Nat.{ℕ, zero, suc, _+_, _-_, min}
 use native.Mathlib.Omega.{arith}
 use lib.Dec.{eqb}
 use lib.IntN.{pos, negsuc}
@@ -235,7 +235,13 @@ module _ (cells perKm : ℕ) (cs : List Call) (some : usableCount cells ≡ true
   abbrev now : Board
   now = afterIn board (startBoard cells perKm) cs
 
-  -- after any calls: the area is written whole
+  -- after any calls: every kept event has a number that ticks record, and a save writes the area whole
+  pub known-after : any neverRecorded (keptOf (now .hire .events)) ≡ false
+  unfolding boardAt
+  known-after =
+      subst⁻¹ (λ (b : Board). any neverRecorded (keptOf (b .hire .events)) ≡ false) (account cells perKm cs)
+      (kept-known (deeds cells perKm cs) (known-since cells perKm (reverse cs)))
+
   pub saved : step now (save areaLength) .1 .buffer ≡ areaOf (now .hire .events)
   unfolding step saveNumber boardAt
   saved =

@@ -1,6 +1,5 @@
 -- One test for each number. Assumes nothing.
 use Rattle.events.proofs.Records.{tested, all-tested}
-use borrow.Author.Needs.{needs}
 use Rattle.events.proofs.memory.is_recorded.Statement.{statement}
 use Rattle.events.proofs.memory.is_recorded.Tie as tie
 
