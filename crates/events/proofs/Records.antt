@@ -24,9 +24,6 @@ pub length-kept : (e : Events) → length (e .list) ≡ capacity → length (kep
 unfolding latest
 length-kept e l = simp length-drop (omega arith)
 
-pub length-saved : (e : Events) → length (e .list) ≡ capacity → length (savedOf e) ≡ capacity
-length-saved e l = let k = length-kept e l in simp (length-append, length-replicate) (omega arith)
-
 -- a kept event, and behind them an unused record
 pub saved-kept : (e : Events) (i : ℕ) → length (e .list) ≡ capacity → i < keptCount e → placed (savedOf e) i ≡ placed (keptOf e) i
 saved-kept e i l h = let k = length-kept e l in List·getD-append (keptOf e) _ noEvent i (omega arith)
@@ -38,6 +35,9 @@ saved-unused e i l h h₁ =
     ap (placed (savedOf e)) m
     ∙ getD-append-add (keptOf e) _ (i - length (keptOf e)) noEvent
     ∙ getD-replicate (capacity - length (keptOf e)) (i - length (keptOf e)) noRecord noEvent (omega arith)
+
+pub length-saved : (e : Events) → length (e .list) ≡ capacity → length (savedOf e) ≡ capacity
+length-saved e l = let k = length-kept e l in simp (length-append, length-replicate) (omega arith)
 
 -- ---- records put one by one
 
