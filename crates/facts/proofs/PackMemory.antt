@@ -4,7 +4,7 @@
 use mathlib.Core.Path.{_≡_, refl, sym, ap, _∙_, subst⁻¹}
 use mathlib.Core.Bool.{Bool, true, false, _&&_, not, cond, false≢true}
 use mathlib.Core.List.{List, [], _∷_, _++_, map, reverse, append-nil, append-assoc}
-use Prim.Native.Nat.{ℕ, zero, suc, _+_, _-_, min}
+use Prim.Native.Nat.{ℕ, zero, suc, _+_, _-_, _≤_, min}
 use native.Mathlib.Omega.{arith}
 use lib.Dec.{eqb}
 use lib.IntN.{pos, negsuc}
@@ -273,9 +273,15 @@ module _ (cells perKm : ℕ) (cs : List Call) (some : usableCount cells ≡ true
 
 -- ---- a load followed by a save gives the area back, of any usable board
 
-pub load-then-save : (b : Board) (area : List ℕ) → usable b ≡ true → Bytes area → loadNumber area ≡ 0 → step (step b (load area) .0) (save areaLength) .1 .buffer ≡ area
+area-bytes : (area : List ℕ) → All (λ byte. byte ≤ 255) area → Bytes area
+area-bytes [] p i = omega arith
+area-bytes (byte ∷ area) p zero = let most = p .0 in omega arith
+area-bytes (byte ∷ area) p (suc i) = area-bytes area (p .1) i
+
+pub load-then-save : (b : Board) (area : List ℕ) → usable b ≡ true → All (λ byte. byte ≤ 255) area → loadNumber area ≡ 0
+    → step (step b (load area) .0) (save areaLength) .1 .buffer ≡ area
 unfolding step saveNumber loadOf
-load-then-save b area some bytes done = rw (some, some) (load-save area done bytes (b .hire .events))
+load-then-save b area some bytes done = rw (some, some) (load-save area done (area-bytes area bytes) (b .hire .events))
 
 -- ---- a load changes the events alone; a save changes nothing
 
