@@ -1,4 +1,5 @@
 -- Those of the area where its number is 0. Assumes nothing.
+use native.Mathlib.Omega.{arith}
 use borrow.Author.Tests.{ne-eqb}
 use Rattle.events.specs.Memory.{loadOf}
 use borrow.Author.Needs.{needs}
@@ -10,7 +11,7 @@ load-number-requires c κs = search needs
 
 returns : tie.Need-returns
 unfolding loadOf
-returns c = rw (← c .before .load-number .ensures, ne-eqb _ _ (c .if1 .taken))
+returns c = rw (← c .before .load-number .ensures, ne-eqb (c .before .load-number .result) 0 (λ z. omega arith))
 
 list-in-requires : tie.Need-list-in-requires
 list-in-requires c κs = search needs
