@@ -6,8 +6,8 @@
 #include <stddef.h>
 #include <stdint.h>
 
-/* "Numbers the caller gets", 6 and 7 of W-201, 61 and 62 of W-211. Number 5 (a reply payload above 254 bytes) has no
-   place here: a register block lies in one range, so its payload is 200 bytes at most (100 registers), 48 events make
+/* "Numbers the caller gets", 6 and 7 of W-201, 31 to 33 of W-205, 61 and 62 of W-211. Number 5 (a reply payload above
+   254 bytes) has no place here: a register block lies in one range, so its payload is 200 bytes at most, 48 events make
    196, and a list of 63 registers makes 252. */
 enum number {
     DONE = 0,
@@ -22,6 +22,9 @@ enum number {
     NO_INTERNAL_TEMPERATURE = 13,
     WRONG_PULSES = 14,
     NO_BOARD = 21,
+    WRONG_AREA = 31,
+    USED_AFTER_UNUSED = 32,
+    NEVER_RECORDED = 33,
     BAD_RECORD = 61,
     CUT_RECORD = 62
 };
@@ -33,6 +36,8 @@ enum {
     LONGEST_REQUEST = 264,  /* a 0x10 whose PL is 255 */
     NOT_CONNECTED = -32768,
     EVENTS_KEPT = 48,
+    AREA_RECORD = 4,        /* bytes of a saved event: three of time, and its number */
+    AREA_BYTES = EVENTS_KEPT * AREA_RECORD,
     WINDOW = 10             /* ticks that the speed looks back on */
 };
 
@@ -101,7 +106,7 @@ struct board {
     bool charge_switch, discharge_switch;
     struct statistics statistics;
     struct event event[EVENTS_KEPT];    /* the event noted as number n lies at n modulo 48 */
-    uint64_t events_noted, events_sent; /* since their clear; sent: noted before the latest 0x11 */
+    uint64_t events_noted, events_sent; /* since their clear or load; sent: loaded, or noted before the latest 0x11 */
     struct receiver receiver;
 };
 
@@ -114,8 +119,12 @@ enum number board_frame(struct board *board, const uint8_t *frame, size_t length
 enum number board_handover(struct board *board);
 enum number board_offer(struct board *board, const uint8_t *bytes, size_t length, size_t *taken);
 enum number board_fetch(struct board *board, uint8_t *reply, size_t room);
+enum number board_save(const struct board *board, uint8_t *area, size_t length);
+enum number board_load(struct board *board, const uint8_t *area, size_t length);
 
 bool holds_frame(const struct board *board);
+bool is_ever_recorded(uint8_t event_number);
+uint64_t oldest_kept(const struct board *board);    /* as events are noted, from 0; events_noted where none is kept */
 void clear_events(struct board *board);
 void clear_statistics(struct board *board);
 

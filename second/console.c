@@ -114,16 +114,23 @@ static char *say_state(char *at, enum number number, const struct board *board)
     return say_word(at, board->real);
 }
 
+/* " BYTE.." */
+static char *say_bytes(char *at, const uint8_t *bytes, size_t length)
+{
+    for (size_t byte = 0; byte < length; byte++) {
+        *at++ = ' ';
+        at = say_byte(at, bytes[byte]);
+    }
+    return at;
+}
+
 /* " BYTE.. +Z": the whole buffer, its trailing zero bytes as their count. */
 static char *say_buffer(char *at, const uint8_t *buffer, size_t room)
 {
     size_t said = room;
     while (said > 0 && buffer[said - 1] == 0)
         said--;
-    for (size_t byte = 0; byte < said; byte++) {
-        *at++ = ' ';
-        at = say_byte(at, buffer[byte]);
-    }
+    at = say_bytes(at, buffer, said);
     *at++ = ' ';
     *at++ = '+';
     return say_decimal(at, (unsigned)(room - said));
@@ -201,6 +208,28 @@ static char *call_fetch(struct board *board, struct words *words, char *answer)
     return say_buffer(say_state(answer, number, board), reply, (size_t)room);
 }
 
+/* "every byte of the area, as it stands after the call" */
+static char *call_save(const struct board *board, struct words *words, char *answer)
+{
+    int64_t length;
+    uint8_t area[MOST_ROOM];
+    if (!take_number(words, 0, MOST_ROOM, &length) || another_word(words))
+        return NULL;
+    memset(area, 0x5A, (size_t)length);
+    const enum number number = board_save(board, area, (size_t)length);
+    return say_bytes(say_state(answer, number, board), area, (size_t)length);
+}
+
+static char *call_load(struct board *board, struct words *words, char *answer)
+{
+    uint8_t area[MOST_BYTES];
+    size_t length;
+    if (!take_bytes(words, area, &length))
+        return NULL;
+    const enum number number = board_load(board, area, length);
+    return say_state(answer, number, board);
+}
+
 static char *call_handover(struct board *board, struct words *words, char *answer)
 {
     if (another_word(words))
@@ -245,6 +274,10 @@ static char *make_call(struct board *board, struct words *words, char *answer)
         return call_fetch(board, words, answer);
     if (take_word(words, "start"))
         return call_start(board, words, answer);
+    if (take_word(words, "save"))
+        return call_save(board, words, answer);
+    if (take_word(words, "load"))
+        return call_load(board, words, answer);
     if (take_word(words, "handover"))
         return call_handover(board, words, answer);
     if (take_word(words, "crc"))

@@ -8,7 +8,7 @@
 enum {
     MOST_BYTES = 300,                   /* "0 to 300 bytes" */
     MOST_CELLS_LENT = 32,               /* "0 to 32 cells" */
-    MOST_ROOM = 600,                    /* "a reply buffer of ROOM bytes, 0 to 600" */
+    MOST_ROOM = 600,                    /* "a reply buffer of ROOM bytes, 0 to 600", and "an area of LENGTH bytes" */
     LONGEST_LINE = 4000,                /* "a line over 4,000 bytes" is answered "?" */
     ANSWER_ROOM = 3 * MOST_ROOM + 32    /* for "NUMBER SWITCHES NEED REAL BYTE.. +Z" at its longest, and its LF */
 };
@@ -17,9 +17,9 @@ enum {
    0 for a line that gives none. */
 size_t answer_line(struct board *board, const char *line, size_t length, char answer[ANSWER_ROOM]);
 
-/* What a script is made of: calls of every kind, ticks alone, what an app sends with some ticks between, or calls of
-   every kind with a quarter of the frames by the quicker commands of W-202. */
-enum script_kind { MIXED, TICKS, FRAMES, QUICK };
+/* What a script is made of: calls of every kind, ticks alone, what an app sends with some ticks between; or calls of
+   every kind with a quarter of the frames of W-202, or with a twentieth of the calls saves and loads. */
+enum script_kind { MIXED, TICKS, FRAMES, QUICK, MEMORY };
 
 /* Prints a script of calls, the first of them a start where they are ticks or frames; always the same for one seed. */
 void print_script(uint64_t seed, uint64_t calls, enum script_kind kind);

@@ -274,7 +274,7 @@ static bool write_list(struct board *board, const uint8_t *frame, struct reply *
 /* "0x11 sends those not yet sent by an earlier 0x11; 0x12 sends all kept and marks nothing." Oldest first. */
 static bool send_events(struct board *board, uint8_t command, struct reply *reply)
 {
-    uint64_t first = board->events_noted > EVENTS_KEPT ? board->events_noted - EVENTS_KEPT : 0;
+    uint64_t first = oldest_kept(board);
     if (command == 0x11 && first < board->events_sent)
         first = board->events_sent;
     put_head(reply, command);

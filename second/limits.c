@@ -1,5 +1,5 @@
-/* Scripts that drive a number of the statistics, or the event time, to its end and once more. They are too long to be
-   stored; each begins with a comment that says what it drives. */
+/* Scripts that drive a number of the statistics, or the event time, to its end and once more, or go through all event
+   numbers. They are too long to be stored; each begins with a comment that says what it drives. */
 #include "console.h"
 
 #include <stdio.h>
@@ -99,6 +99,19 @@ static void print_event_time(void)
     say_and_read(ask_clear);
 }
 
+/* "33, an event number this board never records": each of the 256, as the number of the one used record. */
+static void print_event_numbers(void)
+{
+    puts("# each event number loaded, and what is saved after it");
+    puts("start 4 0");
+    for (int number = 0; number <= 255; number++) {
+        printf("load 00 00 00 %02X", number);
+        for (int bytes = AREA_RECORD; bytes < AREA_BYTES; bytes++)
+            printf(" FF");
+        printf("\nsave %d\n", AREA_BYTES);
+    }
+}
+
 bool print_limits(const char *name)
 {
     static const struct {
@@ -108,7 +121,8 @@ bool print_limits(const char *name)
         {"latchings", print_latchings},
         {"currents", print_currents},
         {"distance", print_distance},
-        {"event-time", print_event_time}
+        {"event-time", print_event_time},
+        {"event-numbers", print_event_numbers}
     };
     for (size_t at = 0; at < sizeof scripts / sizeof scripts[0]; at++) {
         if (strcmp(name, scripts[at].name) == 0) {

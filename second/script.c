@@ -307,6 +307,31 @@ static void say_offer_or_fetch(struct script *script)
         say(script, "fetch %d", make_room(script, 12));
 }
 
+/* ---- The pack's memory ---- */
+
+static void say_save(struct script *script)
+{
+    static const int wrong[] = {0, 1, AREA_RECORD, AREA_BYTES - 1, AREA_BYTES + 1, AREA_BYTES + AREA_RECORD, 300, 600};
+    say(script, "save %d", one_in(script, 5) ? PICK(script, wrong) : AREA_BYTES);
+    board_save(&script->board, script->saved, AREA_BYTES);
+}
+
+static void say_load(struct script *script)
+{
+    uint8_t area[MOST_BYTES];
+    const size_t length = make_area(script, area);
+    say(script, "load");
+    say_bytes(script, one_in(script, 20) ? " %02x" : " %02X", area, length);
+}
+
+static void say_save_or_load(struct script *script)
+{
+    if (one_in(script, 2))
+        say_save(script);
+    else
+        say_load(script);
+}
+
 /* ---- Other lines ---- */
 
 static void say_crc(struct script *script)
@@ -331,6 +356,8 @@ static const char *const junk[] = {
     "frame 259 AA 18 7F 1A \x01", "frame AA 18 7F 1A", "frame 0x259 AA 18 7F 1A", "frame 0259 aa 18 7f 1A",
     "offer", "offer A", "offer AAA", "offer AA18 7F", "offer 259 AA", "offers AA", "Offer AA", "offer aa 1D",
     "offer GG", "fetch", "fetch 601", "fetch -0", "fetch 259 AA", "fetch 0600", "fetch 259 ", "fetch x", "fetched 259",
+    "save", "save 601", "save -0", "save 192 192", "save 0192", "save x", "save 0xC0", "saved 192", "Save 192",
+    "load", "load F", "load FFF", "load FFFF", "load GG", "load 192 FF", "loads FF", "Load FF", "load fF Ff",
     "crc", "crc 1", "crc 001", "crc ZZ", "crc aB Ba", "register", "register 65536", "register -0", "register 50 50",
     "register 0050", "tick 0 250 250 250 0 0",
     "tick 2147483648 250 250 250 0 0 0 1 2 3 4", "tick -2147483649 250 250 250 0 0 0 1 2 3 4",
@@ -348,7 +375,7 @@ static void say_junk(struct script *script)
 {
     const int kind = between(script, 0, 11);
     if (kind == 0) {
-        say(script, one_in(script, 2) ? "frame 600" : "offer");
+        say(script, "%s", PICK(script, ((const char *const[]){"frame 600", "offer", "load"})));
         for (int bytes = between(script, 300, 302); bytes > 0; bytes--)
             say(script, " 0%d", bytes % 10);
     } else if (kind == 1) {
@@ -372,7 +399,7 @@ static void say_junk(struct script *script)
 /* "Number 21 gives back no usable board: any later call on it, handover included, answers 21" */
 static void say_call_without_board(struct script *script)
 {
-    const int kind = between(script, 0, 6);
+    const int kind = between(script, 0, 7);
     script->unstarted--;
     if (kind == 0)
         say(script, "handover");
@@ -386,6 +413,8 @@ static void say_call_without_board(struct script *script)
         say_offer(script);
     else if (kind == 6)
         say(script, "fetch %d", make_room(script, 2));
+    else if (kind == 7)
+        say_save_or_load(script);
     else
         say_frame(script);
 }
@@ -406,6 +435,8 @@ static void say_call(struct script *script)
     const int kind = between(script, 0, 9999);
     if (script->board.cells == 0) {
         say_call_without_board(script);
+    } else if (between(script, 1, 1000) <= script->saves_and_loads) {
+        say_save_or_load(script);
     } else if (kind < 12) {
         say_start(script);
     } else if (kind < 70) {
@@ -441,7 +472,9 @@ void print_script(uint64_t seed, uint64_t calls, enum script_kind kind)
     static struct script script;
     char ignored[ANSWER_ROOM];
     script = (struct script){.chance = seed, .unstarted = 4, .reads_of_events = 12,
-                             .quick_commands = kind == QUICK ? 26 : 12};
+                             .quick_commands = kind == QUICK ? 26 : 12,
+                             .saves_and_loads = kind == MEMORY ? 52 : 15};
+    memset(script.saved, 0xFF, sizeof script.saved);
     board_start(&script.board, 0, 0);
     for (uint64_t call = 0; call < calls; call++) {
         script.length = 0;

@@ -20,6 +20,8 @@ struct script {
     int reads_of_events;        /* one other request in so many is 0x11 */
     uint8_t waiting[3 * MOST_BYTES];    /* bytes on the raw line that are still to be offered */
     size_t waiting_length;
+    int saves_and_loads;        /* so many calls of 1,000 */
+    uint8_t saved[AREA_BYTES];  /* the area of the latest save */
     char line[LONGEST_LINE + 100];
     size_t length;
 };
@@ -43,6 +45,9 @@ void add(struct request *request, int byte);
 void ask(struct script *script, struct request *request);
 void ask_by_PL(struct script *script, struct request *request);
 void ask_as_app(struct script *script, struct request *request);
+
+/* An area as a save may have given it, or damaged; gives back its length. */
+size_t make_area(struct script *script, uint8_t area[MOST_BYTES]);
 
 /* Faults of the frame itself: CRC, first byte, length. */
 void spoil(struct script *script, struct request *request);

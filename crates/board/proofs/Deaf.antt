@@ -1,4 +1,4 @@
--- A tick, a frame and a handover neither look at what is held of the raw line nor touch it (a handover drops it): so calls that are none of the
+-- A tick, a frame, a handover, a save and a load neither look at what is held of the raw line nor touch it (a handover drops it): so calls that are none of the
 -- line's are answered alike, whatever is held.
 -- Assumes nothing.
 use mathlib.Core.Path.{_≡_, refl, sym, ap, ap₂, _∙_}
@@ -7,6 +7,8 @@ use mathlib.Core.List.{List, [], _∷_}
 use Prim.Native.Nat.{ℕ}
 use lib.Dec.{eqb, ltb}
 use lib.ListN.{length}
+use Rattle.events.specs.Memory.{areaOf}
+use Rattle.events.specs.Memory as events
 use Rattle.hire.specs.Registers.{liveRegister}
 use Rattle.pack.specs.Pack.{tickNumber}
 use Rattle.readings.specs.declared.Readings.{Readings}
@@ -19,12 +21,13 @@ use Rattle.requests.specs.Requests.{requestOf, commandOf}
 use Rattle.wire.specs.Wire.{padded, sealed, nackOf}
 use Rattle.board.specs.declared.Board.{Board}
 use Rattle.board.specs.declared.Answer.{Answer}
-use Rattle.board.specs.State.{usable, withReceiver}
+use Rattle.board.specs.State.{usable, withEvents, withReceiver}
+use Rattle.board.specs.Memory.{saveNumber, loadOf}
 use Rattle.board.specs.Tick.{tickedOf, tickOf}
 use Rattle.board.specs.Handover.{handedOver, handoverOf}
 use Rattle.board.specs.Registers.{shownAt}
 use Rattle.board.specs.Frames.{valueAt, bodyBy, bodyOf, payloadOf, tooLong, requestNumber, changedBy, requestBoard, queryReply, requestReply, frameNumber, frameBoard, frameReply}
-use Rattle.board.specs.Calls.{Call, Seen, seen, tick, frame, handover, offer, fetch, step}
+use Rattle.board.specs.Calls.{Call, Seen, seen, tick, frame, handover, offer, fetch, save, load, areaSeen, step}
 use Rattle.board.specs.Behaviour.{board, answersIn}
 use Rattle.board.specs.Demands.{offTheLine}
 use Rattle.board.proofs.Opened.{steps}
@@ -120,7 +123,7 @@ abbrev shown : ℕ → List ℕ → Board → Seen
 shown number buffer b = seen (record { number = number; board = b }) buffer
 
 pub alike : (b : Board) (r : Receiver) (cs : List Call) → offTheLine cs ≡ true → answersIn board (withReceiver b r) cs ≡ answersIn board b cs
-unfolding answersIn step tickOf handoverOf handedOver
+unfolding answersIn step tickOf handoverOf handedOver saveNumber loadOf
 alike b r [] e = refl
 alike b r (tick cells rd ∷ cs) e =
     ap (λ (x : Board). shown (tickOf b cells rd .number) [] x ∷ answersIn board x cs) (tick-board b r cells rd)
@@ -138,3 +141,14 @@ alike b r (handover ∷ cs) e = go (usable b) (alike b r cs e)
     go false i = ap (λ (l : List Seen). shown 21 [] b ∷ l) i
 alike b r (offer bytes ∷ cs) e = absurd (false≢true e)
 alike b r (fetch room ∷ cs) e = absurd (false≢true e)
+alike b r (save n ∷ cs) e = ap (λ (l : List Seen). shown (saveNumber b n) (areaSeen (saveNumber b n) (areaOf (b .hire .events))) b ∷ l) (alike b r cs e)
+alike b r (load area ∷ cs) e = go (usable b) (alike b r cs e) (alike (loadOf b area .board) r cs e)
+  where
+    into : Board
+    into = withEvents b (events.loadOf (b .hire .events) area .events)
+
+    go : (t : Bool) → answersIn board (withReceiver b r) cs ≡ answersIn board b cs → answersIn board (withReceiver (cond t into b) r) cs ≡ answersIn board (cond t into b) cs
+        → shown (loadOf b area .number) [] (cond t (withReceiver into r) (withReceiver b r)) ∷ answersIn board (cond t (withReceiver into r) (withReceiver b r)) cs
+        ≡ shown (loadOf b area .number) [] (cond t into b) ∷ answersIn board (cond t into b) cs
+    go true i j = ap (λ (l : List Seen). shown (loadOf b area .number) [] into ∷ l) j
+    go false i j = ap (λ (l : List Seen). shown (loadOf b area .number) [] b ∷ l) i

@@ -4,6 +4,7 @@
 use Rattle.laws.specs.Fold.{shifted, packed}
 use Rattle.crc.specs.Crc as crc
 use Rattle.events.specs.Events as events
+use Rattle.events.specs.Memory as memory
 use Rattle.guard.specs.Guard.{holdsOf, waitsOf, recoversOf, latchedOf, guardOf}
 use Rattle.guard.specs.Account.{latchedFrom, waitsFrom, rememberedFrom}
 use Rattle.guard.specs.Table.{is, chargeOff, dischargeOff, faulty, latchEvent, recoveryEvent, eventOf}
@@ -25,6 +26,7 @@ use Rattle.requests.specs.Requests.{expectedOf, lengthOf, clearOf, blockOf, add
 use Rattle.board.specs.Frames.{valueAt, bodyBy, bodyOf, payloadOf, requestNumber, changedBy, requestBoard, refusalReply, takenReply, writeReply, queryReply, requestReply, frameNumber, frameBoard, frameReply}
 use Rattle.receiver.specs.Receiver.{isHeld, withByte, offeredOf}
 use Rattle.board.specs.Line.{offerOf, fetchNumber, fetchBoard, fetchReply}
+use Rattle.board.specs.Memory.{saveNumber, savedArea, loadOf}
 use Rattle.board.specs.Calls.{step}
 use Rattle.board.specs.Behaviour.{afterIn, answersIn}
 use Rattle.board.specs.Account.{settingsAt, secondsAt, clockAt, latchedAt, waitsAt, rememberedAt, sensedAt, windowAt, chargerAt, statusAt, decisionAt, balancingAt, chargeAt, dischargeAt, eventsAt, statisticsAt, heardAt, boardAt, asking, calling, deedsOf}
@@ -36,7 +38,7 @@ unfolding tickedOf sensed watched acted readingsKept timePassed ridden chargerSe
 steps = tt
 
 unfoldable pub opened : Unit {0}
-unfolding shifted packed crc.crcOf crc.byteIn crc.times crc.shiftedOut events.latest events.noEvents events.addOf events.sentOf holdsOf waitsOf recoversOf latchedOf guardOf is chargeOff dischargeOff faulty latchEvent recoveryEvent eventOf live.bitsOf live.speedBitsOf readings.judgedOf readings.numberOf settings.ofKind settings.registerOf settings.listed settings.withOf settings.noneBelow settings.inRange settings.ordered settings.judgedOf settings.numberOf settings.putOf settings.verdictOf settings.standingOf signed.bitsOf signed.fromBits signed.degreesOf statistics.distanceOf statistics.countsOf statistics.temperaturesShown statistics.riddenOf statistics.countedOf statistics.clearedAt statistics.registerOf newHire newPack startBoard steps laterOf statusFor tickNumber tickOf liveRegister shownAt handedOver handoverOf words sealed padded expectedOf clearOf blockOf addressAt allShown listOf pairAt pairsOf countOf wellCounted allSettings writeCommand writeOf kindOf settingsOf fieldsOf askedOf requestOf valueAt bodyBy payloadOf commandOf marks refusalNumber draftedOf requestNumber changedBy requestBoard refusalReply takenReply writeReply queryReply requestReply frameNumber frameBoard frameReply lengthOf isHeld withByte offeredOf offerOf fetchNumber fetchBoard fetchReply step afterIn answersIn
+unfolding shifted packed crc.crcOf crc.byteIn crc.times crc.shiftedOut events.latest events.noEvents events.addOf events.sentOf holdsOf waitsOf recoversOf latchedOf guardOf is chargeOff dischargeOff faulty latchEvent recoveryEvent eventOf live.bitsOf live.speedBitsOf readings.judgedOf readings.numberOf settings.ofKind settings.registerOf settings.listed settings.withOf settings.noneBelow settings.inRange settings.ordered settings.judgedOf settings.numberOf settings.putOf settings.verdictOf settings.standingOf signed.bitsOf signed.fromBits signed.degreesOf statistics.distanceOf statistics.countsOf statistics.temperaturesShown statistics.riddenOf statistics.countedOf statistics.clearedAt statistics.registerOf newHire newPack startBoard steps laterOf statusFor tickNumber tickOf liveRegister shownAt handedOver handoverOf words sealed padded expectedOf clearOf blockOf addressAt allShown listOf pairAt pairsOf countOf wellCounted allSettings writeCommand writeOf kindOf settingsOf fieldsOf askedOf requestOf valueAt bodyBy payloadOf commandOf marks refusalNumber draftedOf requestNumber changedBy requestBoard refusalReply takenReply writeReply queryReply requestReply frameNumber frameBoard frameReply lengthOf isHeld withByte offeredOf offerOf fetchNumber fetchBoard fetchReply memory.areaOf memory.recordsIn memory.usedOf memory.parted memory.isRecorded memory.loadNumber memory.loadOf saveNumber savedArea loadOf step afterIn answersIn
 opened = tt
 
 unfoldable pub accounted : Unit {0}

@@ -13,6 +13,7 @@ use Rattle.cells.specs.Cells.{keptOf, extremesOf, sumOf, decisionOf}
 use Rattle.events.specs.declared.Event.{Event}
 use Rattle.events.specs.declared.Events.{Events}
 use Rattle.events.specs.Events.{capacity, eventAt, noEvent}
+use Rattle.events.specs.Memory.{loadNumber, eventsIn}
 use Rattle.guard.specs.declared.Conditions.{Conditions}
 use Rattle.guard.specs.declared.Condition.{Condition}
 use Rattle.guard.specs.declared.Condition.the-variants.{UV, OV, OT, DOC, COC, ROC, LT}
@@ -41,7 +42,7 @@ use Rattle.pack.specs.Pack.{usableCount}
 use Rattle.hire.specs.Hire.{noSensed}
 use Rattle.hire.specs.Tick.{chargerEvent, statusFor}
 use Rattle.requests.specs.Requests.{requestOf, pairsOf, marks, writtenTo}
-use Rattle.board.specs.Calls.{Call, tick, frame, handover, offer, fetch}
+use Rattle.board.specs.Calls.{Call, tick, frame, handover, offer, fetch, save, load}
 
 -- ---- deeds
 
@@ -54,8 +55,9 @@ pub data Deed : Type 0 where
   handed : Deed  -- a handover
   heard : List ℕ → Deed  -- the bytes that an offer took
   fetched : Deed  -- a held frame was fetched; what it asks was done before
+  loaded : List Event → Deed  -- the events of a loaded area, oldest first
 
--- what each deed has: a tick, a write, bytes off the raw line, and which of the marks of a history it is
+-- what each deed has: a tick, a write, bytes off the raw line, loaded events, and which of the marks of a history it is
 pub record Row : Type 0 where
   pub ticks : List (List ℕ × Readings)
   pub writes : List Pair
@@ -65,16 +67,18 @@ pub record Row : Type 0 where
   pub hands : Bool
   pub hears : List ℕ
   pub drops : Bool
+  pub loads : List Event
 
 abbrev pub row : Deed → Row
-row (took cells r) = record { ticks = (cells, r) ∷ []; writes = []; clears = false; forgets = false; sends = false; hands = false; hears = []; drops = false }
-row (wrote ps) = record { ticks = []; writes = ps; clears = false; forgets = false; sends = false; hands = false; hears = []; drops = false }
-row cleared = record { ticks = []; writes = []; clears = true; forgets = false; sends = false; hands = false; hears = []; drops = false }
-row forgot = record { ticks = []; writes = []; clears = false; forgets = true; sends = false; hands = false; hears = []; drops = false }
-row sent = record { ticks = []; writes = []; clears = false; forgets = false; sends = true; hands = false; hears = []; drops = false }
-row handed = record { ticks = []; writes = []; clears = true; forgets = true; sends = false; hands = true; hears = []; drops = true }
-row (heard bytes) = record { ticks = []; writes = []; clears = false; forgets = false; sends = false; hands = false; hears = bytes; drops = false }
-row fetched = record { ticks = []; writes = []; clears = false; forgets = false; sends = false; hands = false; hears = []; drops = true }
+row (took cells r) = record { ticks = (cells, r) ∷ []; writes = []; clears = false; forgets = false; sends = false; hands = false; hears = []; drops = false; loads = [] }
+row (wrote ps) = record { ticks = []; writes = ps; clears = false; forgets = false; sends = false; hands = false; hears = []; drops = false; loads = [] }
+row cleared = record { ticks = []; writes = []; clears = true; forgets = false; sends = false; hands = false; hears = []; drops = false; loads = [] }
+row forgot = record { ticks = []; writes = []; clears = false; forgets = true; sends = false; hands = false; hears = []; drops = false; loads = [] }
+row sent = record { ticks = []; writes = []; clears = false; forgets = false; sends = true; hands = false; hears = []; drops = false; loads = [] }
+row handed = record { ticks = []; writes = []; clears = true; forgets = true; sends = false; hands = true; hears = []; drops = true; loads = [] }
+row (heard bytes) = record { ticks = []; writes = []; clears = false; forgets = false; sends = false; hands = false; hears = bytes; drops = false; loads = [] }
+row fetched = record { ticks = []; writes = []; clears = false; forgets = false; sends = false; hands = false; hears = []; drops = true; loads = [] }
+row (loaded es) = record { ticks = []; writes = []; clears = false; forgets = true; sends = false; hands = false; hears = []; drops = false; loads = es }
 
 abbrev pub clears : Deed → Bool
 clears d = row d .clears
@@ -89,7 +93,7 @@ hands d = row d .hands
 abbrev pub drops : Deed → Bool
 drops d = row d .drops
 
--- forgotten or sent
+-- forgotten, loaded or sent
 abbrev pub settles : Deed → Bool
 settles d = row d .forgets || row d .sends
 
@@ -224,7 +228,7 @@ dischargeNow (d ∷ h) = map (λ t. not (dischargeOff (latchedAt (d ∷ h))) && 
 unfoldable pub dischargeAt : List Deed → Bool
 dischargeAt h = headOr false (each dischargeNow (since hands h))
 
--- ---- events: all that were recorded since they were forgotten, and since they were sent; newest first
+-- ---- events: all that were recorded since they were forgotten or loaded, with those loaded then; and since they were sent; newest first
 
 abbrev pub someEvent : ℕ → List ℕ
 someEvent n = cond (eqb n 0) [] (n ∷ [])
@@ -239,8 +243,13 @@ recordedNow [] = []
 recordedNow (d ∷ h) =
     each (λ t. map (eventAt (secondsAt (d ∷ h))) (numbersOf (latchedAt h) (latchedAt (d ∷ h)) (chargerAt h) (t .1 .charger))) (row d .ticks)
 
+-- what was loaded where they were last forgotten
+abbrev pub loading : List Deed → List Event
+loading [] = []
+loading (d ∷ h) = row d .loads
+
 abbrev pub keptSince : List Deed → List Event
-keptSince h = each recordedNow (since forgets h)
+keptSince h = each recordedNow (since forgets h) ++ reverse (loading (from forgets h))
 
 abbrev pub newSince : List Deed → List Event
 newSince h = each recordedNow (since settles h)
@@ -361,6 +370,8 @@ calling cells perKm h handover = cond (usableCount cells) (handed ∷ h) h
 calling cells perKm h (offer bytes) = cond (usableCount cells) (cond (complete (heldAt h)) h (heard (take (takes (heardAt h) bytes) bytes) ∷ h)) h
 calling cells perKm h (fetch room) =
     cond (usableCount cells) (cond (ltb room 259) h (cond (complete (heldAt h)) (fetched ∷ asking (settingsAt h) (heldAt h) (requestOf (heldAt h)) h) h)) h
+calling cells perKm h (save n) = h
+calling cells perKm h (load area) = cond (usableCount cells) (cond (eqb (loadNumber area) 0) (loaded (eventsIn area) ∷ h) h) h
 
 -- the deeds of a history of calls
 unfoldable pub deedsOf : ℕ → ℕ → List Call → List Deed

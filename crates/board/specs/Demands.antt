@@ -7,10 +7,11 @@ use mathlib.Core.Path.{_≡_}
 use Prim.Native.Nat.{ℕ, _-_, _≤_}
 use lib.Dec.{eqb}
 use lib.ListN.{length, take, drop, getD, replicate}
+use Rattle.events.specs.Memory.{areaOf}
 use Rattle.guard.specs.Quiet.{allQuiet}
 use Rattle.pack.specs.Pack.{usableCount}
 use Rattle.board.specs.declared.Board.{Board}
-use Rattle.board.specs.Calls.{Call, Seen, tick, frame, handover, offer, fetch, step}
+use Rattle.board.specs.Calls.{Call, Seen, tick, frame, handover, offer, fetch, save, load, areaSeen, step}
 use Rattle.board.specs.Behaviour.{Behaviour, afterIn, answersIn}
 use Rattle.wire.specs.Wire.{sealed, padded, nackOf}
 use Rattle.board.specs.Line.{heldIn}
@@ -38,13 +39,16 @@ LeavesReply b a s room =
     × ((a .number ≡ 0 → ⊥) → a .buffer ≡ refusedBuffer (a .number) s room)
     × (a .number ≡ 0 → drop (replyBytes b (asked s)) (a .buffer) ≡ replicate (room - replyBytes b (asked s)) 0)
 
--- what a call leaves of the buffer that it is lent; a refused offer takes nothing
+-- what a call leaves of the buffer that it is lent; a refused offer takes nothing; a saved area is the board's events, and of one that is refused nothing is
+-- seen
 abbrev pub Leaves : Board → Seen → Call → Type 0
 Leaves b a (tick cells r) = a .buffer ≡ []
 Leaves b a (frame s room) = LeavesReply b a s room
 Leaves b a handover = a .buffer ≡ []
 Leaves b a (offer bytes) = (a .buffer ≡ []) × ((a .number ≡ 0 → ⊥) → a .taken ≡ 0)
 Leaves b a (fetch room) = LeavesReply b a (heldIn b) room
+Leaves b a (save n) = a .buffer ≡ areaSeen (a .number) (areaOf (b .hire .events))
+Leaves b a (load area) = a .buffer ≡ []
 
 -- document 02, W-201: "a fetch that answers with a NACK lets the held frame go and changes no other state, which amends demand 1 and 01's table"
 abbrev pub nacks : Call → ℕ → Bool
@@ -53,6 +57,8 @@ nacks (frame s room) number = false
 nacks handover number = false
 nacks (offer bytes) number = false
 nacks (fetch room) number = eqb number 3 || eqb number 4 || eqb number 5
+nacks (save n) number = false
+nacks (load area) number = false
 
 -- calls that are none of the raw line's
 abbrev pub offTheLine : List Call → Bool
@@ -62,6 +68,8 @@ offTheLine (frame s room ∷ cs) = offTheLine cs
 offTheLine (handover ∷ cs) = offTheLine cs
 offTheLine (offer bytes ∷ cs) = false
 offTheLine (fetch room ∷ cs) = false
+offTheLine (save n ∷ cs) = offTheLine cs
+offTheLine (load area ∷ cs) = offTheLine cs
 
 pub record Demand1 (B : Behaviour) : Type 0 where
   -- a start gets its number

@@ -5,6 +5,7 @@ pub mod Registers
 pub mod Handover
 pub mod Frames
 pub mod Line
+pub mod Memory
 pub mod Replies
 pub mod Promises
 pub mod Calls

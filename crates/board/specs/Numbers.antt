@@ -1,12 +1,14 @@
 -- Numbers the caller gets: the table of document 01, a row each, of a call after a history of deeds on a board with those start numbers; and
--- the refusals of W-201.
+-- the refusals of W-201 and W-205.
 -- Assumes nothing.
 use mathlib.Core.Bool.{Bool, true, false, _||_, not, cond}
 use mathlib.Core.List.{List, [], _∷_}
 use Prim.Native.Nat.{ℕ, _-_, _+_}
 use lib.Dec.{eqb, ltb}
 use lib.ListN.{length, take, getD}
+use Rattle.laws.specs.History.{any}
 use Rattle.crc.specs.Crc.{crcOf}
+use Rattle.events.specs.Memory.{noArea, recordsIn, parted, strange}
 use Rattle.receiver.specs.Receiver.{complete}
 use Rattle.readings.specs.Readings.{wrongCells, wrongCurrent, noInternal, wrongPulses}
 use Rattle.settings.specs.declared.Settings.{Settings}
@@ -17,7 +19,7 @@ use Rattle.requests.specs.declared.Request.the-variants as request
 use Rattle.requests.specs.Requests.{le16At, pairsOf, hasLength, askedOf}
 use Rattle.board.specs.declared.Board.{Board}
 use Rattle.board.specs.Frames.{payloadOf, tooLong, writeNumber}
-use Rattle.board.specs.Calls.{Call, tick, frame, handover, offer, fetch}
+use Rattle.board.specs.Calls.{Call, tick, frame, handover, offer, fetch, save, load}
 use Rattle.board.specs.Account.{Deed, settingsAt, heldAt, boardAt}
 
 -- 2: under 4 bytes, or first byte not 0xAA
@@ -69,6 +71,15 @@ rows cells perKm h (offer bytes) = (21, not (usableCount cells)) ∷ (6, complet
 -- 7, a fetch with none held, after 1; else the number of the held frame
 rows cells perKm h (fetch room) =
     (21, not (usableCount cells)) ∷ (1, ltb room 259) ∷ (7, not (complete (heldAt h))) ∷ requestRows cells perKm h (heldAt h)
+-- 31, area not 192 bytes
+rows cells perKm h (save n) = (21, not (usableCount cells)) ∷ (31, noArea n) ∷ []
+-- 32, a used record after an unused one; 33, an event number this board never records
+rows cells perKm h (load area) =
+    (21, not (usableCount cells))
+    ∷ (31, noArea (length area))
+    ∷ (32, parted (recordsIn area))
+    ∷ (33, any strange (recordsIn area))
+    ∷ []
 
 -- the first number that applies; 0, done, where none does
 unfoldable pub first : List (ℕ × Bool) → ℕ

@@ -19,6 +19,7 @@ use Rattle.board.specs.Handover.{handoverOf}
 use Rattle.board.specs.Registers.{shownAt}
 use Rattle.board.specs.Frames.{frameNumber, frameBoard, frameReply}
 use Rattle.board.specs.Line.{offerOf, fetchNumber, fetchBoard, fetchReply}
+use Rattle.board.specs.Memory.{saveNumber, savedArea, loadOf}
 
 -- ---- the calls
 
@@ -45,6 +46,15 @@ pub record Fetches (b : Board) (before : List ℕ) (r : Answer) (after : List �
   pub number : r .number ≡ fetchNumber b (length before)
   pub board : r .board ≡ fetchBoard b (length before)
   pub reply : after ≡ fetchReply b (length before)
+
+-- a save: its number, the board as it was, and every byte of the area
+pub record Saves (b : Board) (before : List ℕ) (r : Answer) (after : List ℕ) : Type 0 where
+  pub number : r .number ≡ saveNumber b (length before)
+  pub board : r .board ≡ b
+  pub area : after ≡ savedArea b before
+
+abbrev pub Loads : Board → List ℕ → Answer → Type 0
+Loads b area r = r ≡ loadOf b area
 
 -- ---- what is read off a board
 

@@ -1,13 +1,14 @@
--- 49 events keep the latest 48; 0x11's mark; event time past 2^24 seconds: computed.
+-- 49 events keep the latest 48; 0x11's mark; event time past 2^24 seconds; saved areas, and areas damaged in each way: computed.
 -- Assumes nothing.
 use mathlib.Core.Path.{_≡_, refl}
-use mathlib.Core.List.{[], _∷_}
-use Prim.Native.Nat.{ℕ, zero, suc, _%_}
+use mathlib.Core.List.{List, [], _∷_, _++_}
+use Prim.Native.Nat.{ℕ, zero, suc, _+_, _-_, _%_}
 use native.Mathlib.Omega.{arith}
-use lib.ListN.{length}
+use lib.ListN.{length, take, drop, replicate}
 use Rattle.laws.specs.Fold.{shifted}
 use Rattle.events.specs.declared.Events.{Events}
-use Rattle.events.specs.Events.{eventAt, timeOf, numberOf, latest, keptOf, newOf, noEvents, addOf, sentOf, placed}
+use Rattle.events.specs.Memory.{areaLength, areaOf, isRecorded, recordsIn, usedOf, parted, loadNumber, eventsIn, loadOf}
+use Rattle.events.specs.Events.{capacity, eventAt, timeOf, numberOf, latest, keptOf, newOf, noEvents, addOf, sentOf, placed}
 
 -- n events, the k-th with the number k and k seconds
 events : ℕ → Events
@@ -31,3 +32,65 @@ wrapped = refl
 -- time and number are read back from the bytes
 read-back : (seconds number : ℕ) → (timeOf (eventAt seconds number) ≡ seconds % 16777216) × (numberOf (eventAt seconds number) ≡ number)
 read-back seconds number = (omega arith, omega arith)
+
+-- ---- saved and loaded (W-205)
+
+-- no event yet: all 0xFF
+saved-none : areaOf noEvents ≡ replicate areaLength 0xFF
+unfolding areaOf noEvents latest
+saved-none = refl
+
+-- two events, the second past 2^16 seconds; then unused records
+saved-two : areaOf (addOf (addOf noEvents 5 0x64) 0x030201 0x02) ≡ 0x05 ∷ 0x00 ∷ 0x00 ∷ 0x64 ∷ 0x01 ∷ 0x02 ∷ 0x03 ∷ 0x02 ∷ replicate (areaLength - 8) 0xFF
+unfolding areaOf noEvents addOf latest shifted
+saved-two = refl
+
+-- all places kept, and one more recorded: no record is unused, and the first is the second of all
+saved-all : (take 4 (areaOf (events capacity)) ≡ 1 ∷ 0 ∷ 0 ∷ 1 ∷ []) × (drop (areaLength - 4) (areaOf (events capacity)) ≡ capacity ∷ 0 ∷ 0 ∷ capacity ∷ [])
+    × (take 4 (areaOf (events (capacity + 1))) ≡ 2 ∷ 0 ∷ 0 ∷ 2 ∷ []) × (length (areaOf (events (capacity + 1))) ≡ areaLength)
+unfolding areaOf events noEvents addOf latest shifted
+saved-all = (refl, refl, refl, refl)
+
+-- nothing is marked: a save leaves two new, and a load marks them as sent
+area : List ℕ
+area = areaOf (addOf (addOf noEvents 5 0x64) 6 0x02)
+
+loaded-two : loadOf noEvents area ≡ record { number = 0; events = sentOf (addOf (addOf noEvents 5 0x64) 6 0x02) }
+unfolding area areaOf noEvents addOf sentOf latest shifted recordsIn usedOf parted isRecorded loadNumber loadOf
+loaded-two = refl
+
+-- 31: of no byte, one too few, one too many
+wrong-length : (loadNumber [] ≡ 31) × (loadNumber (replicate (areaLength - 1) 0xFF) ≡ 31) × (loadNumber (replicate (areaLength + 1) 0xFF) ≡ 31) × (loadNumber (replicate areaLength 0xFF) ≡ 0)
+unfolding recordsIn parted isRecorded loadNumber
+wrong-length = (refl, refl, refl, refl)
+
+-- an area of these bytes, and 0xFF behind them
+filled : List ℕ → List ℕ
+filled bytes = bytes ++ replicate (areaLength - length bytes) 0xFF
+
+-- 32: a used record after an unused one, also where one is of a number that is never recorded
+damaged : (loadNumber (filled (0xFF ∷ 0xFF ∷ 0xFF ∷ 0xFF ∷ 5 ∷ 0 ∷ 0 ∷ 0x64 ∷ [])) ≡ 32) × (loadNumber (filled (5 ∷ 0 ∷ 0 ∷ 0x01 ∷ 0xFF ∷ 0xFF ∷ 0xFF ∷ 0xFF ∷ 5 ∷ 0 ∷ 0 ∷ 0x64 ∷ [])) ≡ 32)
+    × (loadNumber (replicate (areaLength - 4) 0xFF ++ (5 ∷ 0 ∷ 0 ∷ 0x01 ∷ [])) ≡ 32)
+unfolding filled recordsIn parted isRecorded loadNumber
+damaged = (refl, refl, refl)
+
+-- 33: a number that is never recorded; 0xFF with another time is one, and a record of zeros
+unknown : (loadNumber (filled (5 ∷ 0 ∷ 0 ∷ 0x01 ∷ [])) ≡ 33) × (loadNumber (filled (5 ∷ 0 ∷ 0 ∷ 0xFF ∷ [])) ≡ 33) × (loadNumber (filled (0xFF ∷ 0xFF ∷ 0xFE ∷ 0xFF ∷ [])) ≡ 33)
+    × (loadNumber (replicate areaLength 0) ≡ 33) × (loadNumber (filled (0xFF ∷ 0xFF ∷ 0xFF ∷ 0x64 ∷ [])) ≡ 0)
+unfolding filled recordsIn parted isRecorded loadNumber
+unknown = (refl, refl, refl, refl, refl)
+
+-- one refused leaves the list as it was, its mark too
+refused : loadOf (events 3) (filled (5 ∷ 0 ∷ 0 ∷ 0x64 ∷ 6 ∷ 0 ∷ 0 ∷ 0x01 ∷ [])) ≡ record { number = 33; events = events 3 }
+unfolding filled events noEvents addOf shifted recordsIn parted isRecorded loadNumber loadOf
+refused = refl
+
+-- that the kept events have recorded numbers is needed: a list with event 0x01 is saved, and its area is refused
+needed : loadNumber (areaOf (addOf noEvents 5 0x01)) ≡ 33
+unfolding areaOf noEvents addOf latest shifted recordsIn parted isRecorded loadNumber
+needed = refl
+
+-- with the event FF FF FF FF the area loads, but the list is not the same
+unused-event : (loadNumber (areaOf (addOf noEvents 0xFFFFFF 0xFF)) ≡ 0) × (eventsIn (areaOf (addOf noEvents 0xFFFFFF 0xFF)) ≡ [])
+unfolding areaOf noEvents addOf latest shifted recordsIn usedOf parted isRecorded loadNumber
+unused-event = (refl, refl)

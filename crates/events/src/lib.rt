@@ -1,4 +1,6 @@
 // The events that the board keeps: the latest, oldest first, and which of them are new.
+mod memory;
+
 ghost use mathlib.Core.Bool.{cond};
 ghost use mathlib.Core.Path.{_≡_};
 ghost use Prim.Native.Nat.{_+_, _-_, _≤_, min};
@@ -8,6 +10,9 @@ ghost use Rattle.pairs.specs.Pairs.{halfAt};
 
 // How many events are kept.
 pub const CAPACITY: usize = 48;
+
+// How many bytes the area has that they are saved into: a record of four for each.
+pub const AREA: usize = 4 * CAPACITY;
 
 // As it is sent: three time bytes and the event's number, low byte first. All zeros where there is none.
 pub struct Event {
@@ -19,6 +24,12 @@ pub struct Events {
     pub list: [Event; CAPACITY],
     pub kept: u8,
     pub unsent: u8,
+}
+
+// What a load gives back: its number, and the events after it.
+pub struct Loaded {
+    pub number: u8,
+    pub events: Events,
 }
 
 impl Events {

@@ -22,7 +22,7 @@ use lib.Ieee.Back.{round-whole}
 use lib.Ieee.Positive.{first-pos}
 use Rattle.laws.specs.Fold.{gather}
 use Rattle.laws.specs.History.{never, since, each, headOr, sum, newest, ago, latest, waits}
-use Rattle.laws.proofs.Lists.{length-latest, sooner, timer, waited}
+use Rattle.laws.proofs.Lists.{length-latest, timer, waited}
 use Rattle.cells.specs.Cells.{sumOf, lowestOf, highestOf}
 use Rattle.events.specs.Events.{capacity, noEvent, keptCount, newCount}
 use Rattle.guard.specs.Guard.{noneRemembered}
@@ -49,11 +49,12 @@ use Rattle.pack.specs.Pack.{usableCount}
 use Rattle.hire.specs.Hire.{noSensed}
 use Rattle.board.specs.Start.{startBoard}
 use Rattle.requests.specs.Requests.{inOneRange, requestOf, addressAt, pairsOf}
-use Rattle.board.specs.Calls.{Call, tick, frame, handover, offer, fetch}
+use Rattle.board.specs.Calls.{Call, tick, frame, handover, offer, fetch, save, load}
 use Rattle.board.specs.Behaviour.{afterIn, board}
 use Rattle.board.specs.Demands.{deeds}
-use Rattle.board.specs.Account.{Deed, took, wrote, row, forgets, hands, ticking, settingsAt, secondsAt, clockAt, momentOf, momentsAt, latchedAt, waitsAt, rememberedAt, sensedOf, sensedAt, windowAt, recordedNow, keptSince, newSince, eventsAt, heldAt, boardAt, deedsOf}
+use Rattle.board.specs.Account.{Deed, took, wrote, row, hands, ticking, settingsAt, secondsAt, clockAt, momentOf, momentsAt, latchedAt, waitsAt, rememberedAt, sensedOf, sensedAt, windowAt, keptSince, newSince, eventsAt, heldAt, boardAt, deedsOf}
 use Rattle.board.proofs.Account.Deeds.{AfterOne, called-so}
+use Rattle.board.proofs.Account.Shown.{newest-kept}
 use Rattle.board.proofs.Account.Settings.{Fits, ranges, wait-some}
 use Rattle.requests.proofs.Sound.{namedBy, registerIn, inRange, readsInRange, each-shown, sound}
 use Rattle.board.proofs.Demands.Demand2.{account}
@@ -110,13 +111,15 @@ gathered-within (x ∷ xs) a b =
 
 -- ---- the ticks that were accepted
 
--- a tick's cells are of sixteen bits, and a frame's and an offer's bytes of eight
+-- a tick's cells are of sixteen bits, and a frame's, an offer's and a loaded area's bytes of eight
 abbrev pub TypedCall : Call → Type 0
 TypedCall (tick given r) = All (λ c. c ≤ 65535) given
 TypedCall (frame s room) = All (λ byte. byte ≤ 255) s
 TypedCall handover = Unit {0}
 TypedCall (offer bytes) = All (λ byte. byte ≤ 255) bytes
 TypedCall (fetch room) = Unit {0}
+TypedCall (save n) = Unit {0}
+TypedCall (load area) = All (λ byte. byte ≤ 255) area
 
 abbrev pub Typed : List Call → Type 0
 Typed cs = All TypedCall cs
@@ -173,6 +176,8 @@ module _ (cells perKm : ℕ) (Q : Call → Type 0) (P : List ℕ × Readings →
         go handover q p = tt
         go (offer bytes) q p = tt
         go (fetch room) q p = λ f n e. more (wrote (pairsOf f (heldAt h) n)) h tt p
+        go (save n) q p = tt
+        go (load area) q p = tt
 
 -- ---- what an accepted tick has, on a board with that cell count
 
@@ -299,6 +304,8 @@ module _ (cells perKm : ℕ) where
       go handover p = tt
       go (offer bytes) p = tt
       go (fetch room) p = λ f n e. p
+      go (save n) p = tt
+      go (load area) p = tt
 
 moments-short : (cells perKm : ℕ) (cs : List Call) → All Short (momentsAt (deedsOf cells perKm cs))
 moments-short cells perKm cs = all-so Short Fitting (λ m fits. setting-held (m .settings) fits .0) (momentsAt (deedsOf cells perKm cs)) (moments-fit cells perKm cs)
@@ -436,7 +443,7 @@ module _ (cells perKm : ℕ) (cs : List Call) where
   made-bounds : Bounds cells perKm cs (boardAt cells perKm made)
   unfolding boardAt eventsAt clockAt secondsAt latchedFrom waitsFrom latchedAt waitsAt rememberedAt
   made-bounds =
-      let older = sooner forgets (λ d. row d .sends) recordedNow made in
+      let older = newest-kept made in
       let all : length (keptSince made) ≡ length (newSince made) + length (older .0) = ap length (older .1) ∙ length-append (newSince made) (older .0) in
       let short = moments-short cells perKm (reverse cs) in
       let fits = ranges cells perKm (reverse cs) in

@@ -40,7 +40,7 @@ use Rattle.board.specs.State.{usable}
 use Rattle.board.specs.Start.{startBoard}
 use Rattle.board.specs.Registers.{shownAt}
 use Rattle.board.specs.Frames.{valueOf, valueAt, withRegister, bodyBy, bodyOf, tooLong, writeNumber, requestNumber, queryReply, requestReply, frameNumber, frameReply}
-use Rattle.board.specs.Calls.{Call, Seen, tick, frame, handover, step, offer, fetch}
+use Rattle.board.specs.Calls.{Call, Seen, tick, frame, handover, step, offer, fetch, save, load}
 use Rattle.board.specs.Behaviour.{Behaviour, board, afterIn}
 use Rattle.board.specs.Account.{Deed, wrote, row, writing, names, lastOf, lastWritten, settingsAt, distanceAt, heardAt, heldAt, boardAt, asking, deedsOf}
 use Rattle.board.proofs.Account.Deeds.{WhereAsked, any-asked, WhereDone, any-call, AfterOne, called-so}
@@ -208,6 +208,8 @@ module _ (cells perKm : ℕ) where
           let n = takes (heardAt h) bytes in
           subst⁻¹ Bytes (heard-more cells perKm h (take n bytes)) (all-append (λ b. b ≤ 255) (heardAt h) (take n bytes) p (all-taken n bytes t))
       go (fetch room) t p = tt
+      go (save n) t p = tt
+      go (load area) t p = λ e. p
 
   -- so every accepted write of a history: its registers are of sixteen bits, and the last value of an unlisted one is 0
   abbrev EndsOn0 : List Pair → Type 0
@@ -244,6 +246,8 @@ module _ (cells perKm : ℕ) where
       go handover t p = tt
       go (offer bytes) t p = tt
       go (fetch room) t p = λ f n e. accepted-gives h (heldAt h) f n (all-begun (heardAt h) (heard-typed cs (typed .1))) e p
+      go (save n) t p = tt
+      go (load area) t p = tt
 
 -- ---- what a register reads
 

@@ -28,9 +28,11 @@ use Rattle.board.specs.declared.Shown.the-variants.{Register}
 use Rattle.board.specs.State.{usable}
 use Rattle.board.specs.Start.{startBoard}
 use Rattle.board.specs.Registers.{shownAt}
+use Rattle.events.specs.Memory.{areaOf}
+use Rattle.board.specs.Memory.{saveNumber}
 use Rattle.board.specs.Line.{heldIn, holds, fetchReply}
 use Rattle.board.specs.Frames.{valueAt, bodyBy, tooLong, queryReply, requestReply, frameReply}
-use Rattle.board.specs.Calls.{Call, Seen, tick, frame, handover, offer, fetch, step}
+use Rattle.board.specs.Calls.{Call, Seen, tick, frame, handover, offer, fetch, save, load, areaSeen, step}
 use Rattle.board.specs.Behaviour.{Behaviour, board, afterIn}
 use Rattle.board.specs.Account.{boardAt, deedsOf}
 use Rattle.board.specs.Demands.{told}
@@ -65,6 +67,8 @@ bufferDown b (frame s room) = replyDown b s room
 bufferDown b handover = []
 bufferDown b (offer bytes) = []
 bufferDown b (fetch room) = fetchDown b room
+bufferDown b (save n) = areaSeen (saveNumber b n) (areaOf (b .hire .events))
+bufferDown b (load area) = []
 
 -- its state is the start numbers and the calls so far, newest first; the board that the paper works out from them
 abbrev pub History : Type 0

@@ -19,7 +19,7 @@ use Rattle.board.specs.State.{withStatistics}
 use Rattle.board.specs.Start.{startBoard}
 use Rattle.board.specs.Handover.{handoverOf}
 use Rattle.wire.specs.Wire.{padded, sealed, nackOf}
-use Rattle.board.specs.Calls.{Call, Seen, seen, tick, frame, handover, offer, fetch, step}
+use Rattle.board.specs.Calls.{Call, Seen, seen, tick, frame, handover, offer, fetch, save, load, step}
 use Rattle.board.specs.Behaviour.{Behaviour, board}
 use Rattle.board.specs.Account.{distanceAt}
 use Rattle.board.specs.Demands.{Demand1, Demand2, Demand3}
@@ -36,6 +36,8 @@ accepts (frame s room) = says 0 (replicate room 0x5A)
 accepts handover = says 0 []
 accepts (offer bytes) = says 0 []
 accepts (fetch room) = says 0 (replicate room 0x5A)
+accepts (save n) = says 0 (replicate n 0x5A)
+accepts (load area) = says 0 []
 
 abbrev pub accepting : Behaviour
 accepting = record { State = Unit {0}; start = λ cells perKm. tt; started = board .started; step = λ s c. (s, accepts c) }
@@ -63,6 +65,8 @@ lefts (b, last) (frame s room) =
 lefts (b, last) handover = ((step b handover .0, last), step b handover .1)
 lefts (b, last) (offer bytes) = ((step b (offer bytes) .0, last), step b (offer bytes) .1)
 lefts (b, last) (fetch room) = ((step b (fetch room) .0, last), step b (fetch room) .1)
+lefts (b, last) (save n) = ((step b (save n) .0, last), step b (save n) .1)
+lefts (b, last) (load area) = ((step b (load area) .0, last), step b (load area) .1)
 
 abbrev pub leaving : Behaviour
 leaving = record { State = Board × List ℕ; start = λ cells perKm. (startBoard cells perKm, []); started = board .started; step = lefts }
@@ -80,6 +84,8 @@ holdsOn b (frame s room) = step b (frame s room)
 holdsOn b handover = step b handover
 holdsOn b (offer bytes) = step b (offer bytes)
 holdsOn b (fetch room) = (cond (eqb (step b (fetch room) .1 .number) 0) (step b (fetch room) .0) b, step b (fetch room) .1)
+holdsOn b (save n) = step b (save n)
+holdsOn b (load area) = step b (load area)
 
 abbrev pub holdingOn : Behaviour
 holdingOn = record { State = Board; start = startBoard; started = board .started; step = holdsOn }
@@ -119,6 +125,8 @@ nacks (frame s room) = says 4 (padded room (sealed (nackOf (getD s 1 0) 0x00)))
 nacks handover = says 0 []
 nacks (offer bytes) = says 0 []
 nacks (fetch room) = says 7 (replicate room 0)
+nacks (save n) = says 31 []
+nacks (load area) = says 31 []
 
 abbrev pub nacking : Behaviour
 nacking = record { State = Unit {0}; start = λ cells perKm. tt; started = λ cells perKm. 0; step = λ s c. (s, nacks c) }
@@ -139,6 +147,8 @@ idles (frame s room) = says 0 (padded room (0xAA ∷ 0x18 ∷ 0x97 ∷ 0x00 ∷ 
 idles handover = says 0 []
 idles (offer bytes) = says 0 []
 idles (fetch room) = says 7 (replicate room 0)
+idles (save n) = says 31 []
+idles (load area) = says 31 []
 
 abbrev pub idling : Behaviour
 idling = record { State = Unit {0}; start = λ cells perKm. tt; started = λ cells perKm. 0; step = λ s c. (s, idles c) }
@@ -159,6 +169,8 @@ repeats (b, a ∷ rest) (frame s room) = ((b, a ∷ rest), a)
 repeats (b, first) handover = ((step b handover .0, first), step b handover .1)
 repeats (b, first) (offer bytes) = ((step b (offer bytes) .0, first), step b (offer bytes) .1)
 repeats (b, first) (fetch room) = ((step b (fetch room) .0, first), step b (fetch room) .1)
+repeats (b, first) (save n) = ((step b (save n) .0, first), step b (save n) .1)
+repeats (b, first) (load area) = ((step b (load area) .0, first), step b (load area) .1)
 
 abbrev pub repeating : Behaviour
 repeating = record { State = Board × List Seen; start = λ cells perKm. (startBoard cells perKm, []); started = board .started; step = repeats }
@@ -196,6 +208,8 @@ keeps b (frame s room) = step b (frame s room)
 keeps b handover = (b, seen (record { number = handoverOf b .number; board = b }) [])
 keeps b (offer bytes) = step b (offer bytes)
 keeps b (fetch room) = step b (fetch room)
+keeps b (save n) = step b (save n)
+keeps b (load area) = step b (load area)
 
 abbrev pub keeping : Behaviour
 keeping = record { State = Board; start = startBoard; started = board .started; step = keeps }
@@ -216,6 +230,8 @@ lingers b (frame s room) = step b (frame s room)
 lingers b handover = (handoverOf b .board, seen (record { number = handoverOf b .number; board = b }) [])
 lingers b (offer bytes) = step b (offer bytes)
 lingers b (fetch room) = step b (fetch room)
+lingers b (save n) = step b (save n)
+lingers b (load area) = step b (load area)
 
 abbrev pub lingering : Behaviour
 lingering = record { State = Board; start = startBoard; started = board .started; step = lingers }
@@ -236,6 +252,8 @@ drops b (frame s room) = (b, step b (frame s room) .1)
 drops b handover = step b handover
 drops b (offer bytes) = step b (offer bytes)
 drops b (fetch room) = step b (fetch room)
+drops b (save n) = step b (save n)
+drops b (load area) = step b (load area)
 
 abbrev pub dropping : Behaviour
 dropping = record { State = Board; start = startBoard; started = board .started; step = drops }

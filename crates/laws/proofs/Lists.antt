@@ -1,14 +1,14 @@
 -- What taking in one element after the other makes of a window and of a wait, and what of a history is the latest.
 -- Assumes nothing.
-use mathlib.Core.Path.{_≡_, refl, sym, ap, _∙_}
+use mathlib.Core.Path.{_≡_, refl, sym, ap, ap₂, _∙_}
 use mathlib.Core.Bool.{Bool, true, false, cond, _||_}
-use mathlib.Core.List.{List, [], _∷_, _++_, reverse, append-assoc, reverse-cons}
+use mathlib.Core.List.{List, [], _∷_, _++_, reverse, append-assoc, append-nil, reverse-cons}
 use Prim.Native.Nat.{ℕ, zero, suc, _+_, _-_, _≤_, min}
 use native.Mathlib.Omega.{arith, min-cases}
 use native.Mathlib.Nat.{not-suc-le-zero}
 use borrow.Author.Tests.{ltb-true, ltb-false, lt-ltb, le-ltb}
 use lib.Dec.{ltb}
-use lib.ListN.{length, take, drop, length-append, drop-of-length-le}
+use lib.ListN.{length, take, drop, replicate, length-append, drop-of-length-le, replicate-append-replicate}
 use lib.Seq.{drop-append-le, take-all}
 use Rattle.laws.specs.History.{since, each, sum, any, newest, ago, latest, waits}
 use Rattle.laws.specs.Fold.{shifted}
@@ -52,6 +52,22 @@ module _ {A : Type 0} where
       ∙ drop-append-le (m - n) (latest m z xs) (x ∷ []) (rw (length-latest m z xs) (omega arith))
       ∙ ap (λ (l : List A). l ++ (x ∷ [])) (latest-taken m n z xs (omega arith) (omega arith))
       ∙ sym (reverse-cons x (take n xs))
+
+  -- of no more than there are places, all of them, behind empty ones
+  pub latest-few : (n : ℕ) (z : A) (xs : List A) → length xs ≤ n → latest n z xs ≡ replicate (n - length xs) z ++ reverse xs
+  latest-few zero z [] h = refl
+  latest-few zero z (x ∷ xs) h = absurd (not-suc-le-zero h)
+  latest-few (suc n) z [] h =
+      let e : n - 0 + 1 ≡ suc n - 0 = omega arith in
+      ap (λ (l : List A). l ++ (z ∷ [])) (latest-few n z [] (omega arith) ∙ append-nil (replicate (n - 0) z))
+      ∙ replicate-append-replicate (n - 0) 1 z
+      ∙ ap (λ (k : ℕ). replicate k z) e
+      ∙ sym (append-nil (replicate (suc n - 0) z))
+  latest-few (suc n) z (x ∷ xs) h =
+      let e : n - length xs ≡ suc n - suc (length xs) = omega arith in
+      ap (λ (l : List A). l ++ (x ∷ [])) (latest-few n z xs (omega arith))
+      ∙ append-assoc (replicate (n - length xs) z) (reverse xs) (x ∷ [])
+      ∙ ap₂ (λ (k : ℕ) (l : List A). replicate k z ++ l) e (sym (reverse-cons x xs))
 
   pub take-min : (n : ℕ) (xs : List A) → take (min n (length xs)) xs ≡ take n xs
   take-min n xs =

@@ -31,6 +31,13 @@ pub(crate) fn put_replied(out: &mut [u8], at: usize, state: State, reply: &[u8])
     put_end(out, bytes)
 }
 
+// Every byte of the area.
+pub(crate) fn put_saved(out: &mut [u8], at: usize, state: State, area: &[u8]) -> usize {
+    let next = put_state(out, at, state);
+    let bytes = put_bytes(out, next, area);
+    put_end(out, bytes)
+}
+
 pub(crate) fn put_heard(out: &mut [u8], at: usize, state: State, taken: usize) -> usize {
     let next = put_state(out, at, state);
     let space = put(out, next, SPACE);

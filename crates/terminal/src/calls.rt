@@ -29,6 +29,8 @@ pub(crate) enum Call {
     Frame { room: usize, count: usize },
     Offer { count: usize },
     Fetch { room: usize },
+    Save { length: usize },
+    Load { count: usize },
     Handover,
     Crc(u16),
     Register(u16),
@@ -73,6 +75,19 @@ fn named_call(line: &[u8], at: usize, request: &mut [u8], voltages: &mut [u16]) 
     let handover = after_word(line, at, b"handover");
     if 0 < handover {
         return handover_call(line, handover);
+    }
+    rarer_call(line, at, request)
+}
+
+// The pack's memory, and what is no call of the board.
+fn rarer_call(line: &[u8], at: usize, request: &mut [u8]) -> Call {
+    let save = after_word(line, at, b"save");
+    if 0 < save {
+        return save_call(line, save);
+    }
+    let load = after_word(line, at, b"load");
+    if 0 < load {
+        return load_call(line, load, request);
     }
     let crc = after_word(line, at, b"crc");
     if 0 < crc {
@@ -157,6 +172,24 @@ fn fetch_call(line: &[u8], from: usize) -> Call {
         };
     }
     Call::Wrong
+}
+
+fn save_call(line: &[u8], from: usize) -> Call {
+    let length = number(line, from, MOST_ROOM as u32);
+    if length.good & is_last(line, length.next) {
+        return Call::Save {
+            length: length.value as usize,
+        };
+    }
+    Call::Wrong
+}
+
+fn load_call(line: &[u8], from: usize, request: &mut [u8]) -> Call {
+    let given = bytes(line, from, request);
+    match given {
+        Series::Of(count) => Call::Load { count },
+        Series::Wrong => Call::Wrong,
+    }
 }
 
 fn handover_call(line: &[u8], from: usize) -> Call {

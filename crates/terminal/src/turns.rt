@@ -4,6 +4,7 @@ use crate::answers::put_crc;
 use crate::answers::put_heard;
 use crate::answers::put_mark;
 use crate::answers::put_replied;
+use crate::answers::put_saved;
 use crate::answers::put_shown;
 use crate::answers::put_told;
 use crate::calls::Call;
@@ -13,7 +14,7 @@ use board::Board;
 use board::Heard;
 use output::least;
 
-// What a reply buffer holds before a call, so that a byte that the call leaves alone shows.
+// What a reply buffer or an area holds before a call, so that a byte that the call leaves alone shows.
 const FILLING: u8 = 0x5A;
 
 // The board after a line, and how many bytes of answers wait.
@@ -49,10 +50,11 @@ pub(crate) fn answered(
             let length = least(count, request.len());
             heard(board.offer(&request[0..length]), out, said)
         }
-        Call::Fetch { room } => {
-            let mut reply = [FILLING; MOST_ROOM];
-            let lent = least(room, MOST_ROOM);
-            fetched(board, &mut reply[0..lent], out, said)
+        Call::Fetch { room } => fetched(board, room, out, said),
+        Call::Save { length } => saved(board, length, out, said),
+        Call::Load { count } => {
+            let length = least(count, request.len());
+            told(board.load(&request[0..length]), out, said)
         }
         Call::Handover => told(board.handover(), out, said),
         Call::Crc(crc) => after(board, put_crc(out, said, crc)),
@@ -69,18 +71,36 @@ fn told(answer: Answer, out: &mut [u8], said: usize) -> Turn {
     after(answer.board, put_told(out, said, state))
 }
 
-// A frame, a fetch and a register read the board in memory. Each has a function of its own, which copies it there for its own
-// lines; in the match above every line would copy it.
+// A frame, a fetch, a save and a register read the board in memory. Each has a function of its own, which copies it there for its
+// own lines; in the match above every line would copy it.
 fn framed(board: Board, request: &[u8], reply: &mut [u8], out: &mut [u8], said: usize) -> Turn {
     let answer = board.frame(request, reply);
     let state = state_of(answer.board, answer.number);
     after(answer.board, put_replied(out, said, state, reply))
 }
 
-fn fetched(board: Board, reply: &mut [u8], out: &mut [u8], said: usize) -> Turn {
+fn fetched(board: Board, room: usize, out: &mut [u8], said: usize) -> Turn {
+    let mut reply = [FILLING; MOST_ROOM];
+    let lent = least(room, MOST_ROOM);
+    fetched_into(board, &mut reply[0..lent], out, said)
+}
+
+fn fetched_into(board: Board, reply: &mut [u8], out: &mut [u8], said: usize) -> Turn {
     let answer = board.fetch(reply);
     let state = state_of(answer.board, answer.number);
     after(answer.board, put_replied(out, said, state, reply))
+}
+
+fn saved(board: Board, length: usize, out: &mut [u8], said: usize) -> Turn {
+    let mut area = [FILLING; MOST_ROOM];
+    let lent = least(length, MOST_ROOM);
+    saved_into(board, &mut area[0..lent], out, said)
+}
+
+fn saved_into(board: Board, area: &mut [u8], out: &mut [u8], said: usize) -> Turn {
+    let answer = board.save(area);
+    let state = state_of(answer.board, answer.number);
+    after(answer.board, put_saved(out, said, state, area))
 }
 
 fn heard(heard: Heard, out: &mut [u8], said: usize) -> Turn {

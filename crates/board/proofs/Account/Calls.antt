@@ -2,15 +2,20 @@
 use mathlib.Core.Path.{_≡_, refl, sym, ap, ap₂, _∙_}
 use mathlib.Core.Bool.{Bool, true, false, _&&_, _||_, not, cond}
 use mathlib.Core.List.{List, _∷_, _++_, reverse, reverse-append, reverse-reverse}
-use Prim.Native.Nat.{ℕ, _+_, _*_, _≤_}
+use Prim.Native.Nat.{ℕ, _+_, _*_, _-_, _≤_, min}
 use native.Mathlib.Omega.{arith}
 use borrow.Author.Tests.{le-ltb}
 use lib.Dec.{eqb, ltb}
-use lib.ListN.{length, take}
+use lib.ListN.{length, take, replicate, length-reverse}
 use Rattle.laws.specs.Fold.{shifted}
-use Rattle.laws.specs.History.{since, each}
+use Rattle.laws.specs.History.{since, each, latest}
+use Rattle.laws.proofs.Lists.{latest-few}
 use Rattle.cells.specs.Cells.{extremesOf, decisionOf}
-use Rattle.events.specs.Events.{newCount, noEvents, sentOf}
+use Rattle.events.specs.declared.Event.{Event}
+use Rattle.events.specs.Events.{capacity, noEvent, newCount, noEvents, sentOf}
+use Rattle.events.specs.Memory.{loadNumber, listOf, eventsIn}
+use Rattle.events.specs.Memory as events
+use Rattle.events.proofs.Saved.{few-events}
 use Rattle.guard.specs.declared.Guard.{Guard}
 use Rattle.guard.specs.Guard.{guardOf}
 use Rattle.guard.specs.Table.{chargeOff, dischargeOff}
@@ -36,14 +41,15 @@ use Rattle.requests.specs.declared.Request.the-variants as request
 use Rattle.pack.specs.Pack.{usableCount, laterOf, tickNumber}
 use Rattle.board.specs.State.{withSettings, withEvents, withStatistics, withReceiver}
 use Rattle.board.specs.Line.{letGo, offerOf, fetchBoard}
+use Rattle.board.specs.Memory.{loadOf}
 use Rattle.hire.specs.Hire.{newHire}
 use Rattle.hire.specs.Tick.{statusFor}
 use Rattle.board.specs.Tick.{tickedOf, tickOf}
 use Rattle.board.specs.Handover.{handedOver, handoverOf}
 use Rattle.requests.specs.Requests.{requestOf, pairsOf, refusalNumber, draftedOf, marks}
 use Rattle.board.specs.Frames.{tooLong, payloadOf, markedBy, requestNumber, changedBy, requestBoard, frameBoard}
-use Rattle.board.specs.Calls.{Call, tick, frame, handover, offer, fetch, step}
-use Rattle.board.specs.Account.{Deed, took, wrote, cleared, forgot, sent, handed, heard, fetched, drops, sensedOf, settingsAt, secondsAt, clockAt, latchedAt, waitsAt, rememberedAt, sensedAt, windowAt, chargerAt, statusAt, decisionAt, balancingAt, chargeAt, dischargeAt, eventsAt, statisticsAt, heardAt, heldAt, boardAt, asking, calling, deedsOf}
+use Rattle.board.specs.Calls.{Call, tick, frame, handover, offer, fetch, save, load, step}
+use Rattle.board.specs.Account.{Deed, took, wrote, cleared, forgot, sent, handed, heard, fetched, loaded, drops, sensedOf, settingsAt, secondsAt, clockAt, latchedAt, waitsAt, rememberedAt, sensedAt, windowAt, chargerAt, statusAt, decisionAt, balancingAt, chargeAt, dischargeAt, eventsAt, statisticsAt, heardAt, heldAt, boardAt, asking, calling, deedsOf}
 use Rattle.board.specs.Account as account
 use Rattle.board.proofs.Opened.{steps}
 use Rattle.board.proofs.Account.Settings.{written, ranges, wait-some}
@@ -148,6 +154,16 @@ module _ (cells perKm : ℕ) where
     heard-more bytes =
         reverse-append (reverse bytes) (each account.hearing (since drops h)) ∙ ap (λ (l : List ℕ). heardAt h ++ l) (reverse-reverse bytes)
 
+    -- an area has no more events than there are places
+    loaded-goes : (es : List Event) → length es ≤ capacity → withEvents b (listOf es) ≡ boardAt cells perKm (loaded es ∷ h)
+    unfolding boardAt settingsAt clockAt secondsAt latchedAt waitsAt rememberedAt sensedAt windowAt chargerAt statusAt decisionAt balancingAt chargeAt dischargeAt eventsAt statisticsAt heardAt
+    loaded-goes es few =
+        let n = length-reverse es in
+        let places : listOf es .list ≡ latest capacity noEvent (reverse es) =
+        sym (latest-few capacity noEvent (reverse es) (omega arith) ∙ ap₂ (λ (k : ℕ) (l : List Event). replicate (capacity - k) noEvent ++ l) n (reverse-reverse es)) in
+        let kept : length es ≡ min capacity (length (reverse es)) = omega arith in
+        λ i. withEvents b (record { list = places i; kept = kept i; unsent = 0 })
+
     heard-goes : (bytes : List ℕ) → withReceiver b (hearing (b .hire .receiver) bytes) ≡ boardAt cells perKm (heard bytes ∷ h)
     unfolding boardAt settingsAt clockAt secondsAt latchedAt waitsAt rememberedAt sensedAt windowAt chargerAt statusAt decisionAt balancingAt chargeAt dischargeAt eventsAt statisticsAt
     heard-goes bytes = ap (withReceiver b) (heard-all bytes (heardAt h) ∙ ap afterHearing (sym (heard-more bytes)))
@@ -184,7 +200,7 @@ module _ (cells perKm : ℕ) where
         go false = refl
 
     called : (c : Call) → step before c .0 ≡ boardAt cells perKm (calling cells perKm h c)
-    unfolding step calling tickOf tickNumber frameBoard handoverOf offerOf offeredOf fetchBoard boardAt
+    unfolding step calling tickOf tickNumber frameBoard handoverOf offerOf offeredOf fetchBoard loadOf events.loadOf boardAt
     called (tick given r) = go (usableCount cells) (readings.numberOf (readings.judgedOf cells perKm (length given) r))
       where
         one : (t : Bool) → cond t (tickedOf before given r) before ≡ boardAt cells perKm (cond t (took given r ∷ h) h)
@@ -232,6 +248,13 @@ module _ (cells perKm : ℕ) where
         go true false true = ap letGo (requested s (requestOf s)) ∙ fetched-goes (asking (settingsAt h) s (requestOf s) h)
         go true false false = refl
         go false u v = refl
+    called (save n) = refl
+    called (load area) = go (usableCount cells) (eqb (loadNumber area) 0)
+      where
+        go : (t u : Bool) → cond t (withEvents before (cond u (listOf (eventsIn area)) (before .hire .events))) before ≡ boardAt cells perKm (cond t (cond u (loaded (eventsIn area) ∷ h) h) h)
+        go true true = loaded-goes h (eventsIn area) (few-events area)
+        go true false = refl
+        go false u = refl
 
   pub stepped : (h : List Call) (c : Call) → step (boardAt cells perKm (deedsOf cells perKm h)) c .0 ≡ boardAt cells perKm (deedsOf cells perKm (c ∷ h))
   unfolding deedsOf

@@ -6,6 +6,7 @@ use mathlib.Core.List.{List, [], _∷_}
 use Prim.Native.Nat.{ℕ}
 use lib.Dec.{eqb, ltb}
 use lib.ListN.{length, take}
+use Rattle.events.specs.Memory.{loadNumber, eventsIn}
 use Rattle.readings.specs.Readings.{judgedOf, numberOf}
 use Rattle.receiver.specs.Receiver.{complete}
 use Rattle.receiver.specs.Heard.{takes}
@@ -16,8 +17,8 @@ use Rattle.requests.specs.declared.Request.the-variants as request
 use Rattle.requests.specs.Requests.{requestOf, pairsOf, marks}
 use Rattle.pack.specs.Pack.{usableCount}
 use Rattle.board.specs.Frames.{writeNumber}
-use Rattle.board.specs.Calls.{Call, tick, frame, handover, offer, fetch}
-use Rattle.board.specs.Account.{Deed, took, wrote, cleared, forgot, sent, handed, heard, fetched, row, settingsAt, heardAt, heldAt, asking, calling}
+use Rattle.board.specs.Calls.{Call, tick, frame, handover, offer, fetch, save, load}
+use Rattle.board.specs.Account.{Deed, took, wrote, cleared, forgot, sent, handed, heard, fetched, loaded, row, settingsAt, heardAt, heldAt, asking, calling}
 
 module _ (P : List Deed → Type 0) (h : List Deed) where
   -- of what a request asks: it holds of the history, and of each thing that a request may do
@@ -52,6 +53,8 @@ module _ (P : List Deed → Type 0) (h : List Deed) where
     WhereDone handover = P (handed ∷ h)
     WhereDone (offer bytes) = P (heard (take (takes (heardAt h) bytes) bytes) ∷ h)
     WhereDone (fetch room) = P (fetched ∷ asking (settingsAt h) (heldAt h) (requestOf (heldAt h)) h)
+    WhereDone (save n) = Unit {0}
+    WhereDone (load area) = eqb (loadNumber area) 0 ≡ true → P (loaded (eventsIn area) ∷ h)
 
     pub any-call : P h → (c : Call) → WhereDone c → P (calling cells perKm h c)
     unfolding calling
@@ -85,6 +88,13 @@ module _ (P : List Deed → Type 0) (h : List Deed) where
         go true false true = p
         go true false false = none
         go false u v = none
+    any-call none (save n) p = none
+    any-call none (load area) p = go (usableCount cells) (eqb (loadNumber area) 0) refl
+      where
+        go : (t u : Bool) → eqb (loadNumber area) 0 ≡ u → P (cond t (cond u (loaded (eventsIn area) ∷ h) h) h)
+        go true true e = p e
+        go true false e = none
+        go false u e = none
 
 -- ---- of what only ticks and writes add to
 
@@ -99,6 +109,8 @@ module _ (cells perKm : ℕ) (P : List Deed → Type 0) (same : (d : Deed) (k : 
   AfterOne h handover = Unit {0}
   AfterOne h (offer bytes) = Unit {0}
   AfterOne h (fetch room) = AfterWrite h (heldAt h)
+  AfterOne h (save n) = Unit {0}
+  AfterOne h (load area) = Unit {0}
 
   asked-so : (h : List Deed) → P h → (s : List ℕ) → AfterWrite h s → (q : Request) → P (asking (settingsAt h) s q h)
   asked-so h p s w q = any-asked P h p (settingsAt h) s q (go q)
@@ -119,3 +131,5 @@ module _ (cells perKm : ℕ) (P : List Deed → Type 0) (same : (d : Deed) (k : 
       go handover a = same handed h refl refl p
       go (offer bytes) a = same (heard (take (takes (heardAt h) bytes) bytes)) h refl refl p
       go (fetch room) a = same fetched (asking (settingsAt h) (heldAt h) (requestOf (heldAt h)) h) refl refl (asked-so h p (heldAt h) a (requestOf (heldAt h)))
+      go (save n) a = tt
+      go (load area) a = λ e. same (loaded (eventsIn area)) h refl refl p

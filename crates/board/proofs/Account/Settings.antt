@@ -16,8 +16,8 @@ use Rattle.requests.specs.declared.Pair.{Pair}
 use Rattle.requests.specs.declared.Request.{Request}
 use Rattle.requests.specs.declared.Request.the-variants as request
 use Rattle.requests.specs.Requests.{requestOf, pairsOf, draftedOf}
-use Rattle.board.specs.Calls.{Call, tick, frame, handover, offer, fetch}
-use Rattle.board.specs.Account.{Deed, took, wrote, cleared, forgot, sent, handed, heard, fetched, row, writing, names, lastOf, lastWritten, settingsAt, heldAt, asking, calling, deedsOf}
+use Rattle.board.specs.Calls.{Call, tick, frame, handover, offer, fetch, save, load}
+use Rattle.board.specs.Account.{Deed, took, wrote, cleared, forgot, sent, handed, heard, fetched, loaded, row, writing, names, lastOf, lastWritten, settingsAt, heldAt, asking, calling, deedsOf}
 use Rattle.board.proofs.Account.Deeds.{WhereAsked, any-asked, WhereDone, any-call}
 
 -- what pairs give a register, after older ones
@@ -83,6 +83,7 @@ unwritten sent h e = refl
 unwritten handed h e = refl
 unwritten (heard bytes) h e = refl
 unwritten fetched h e = refl
+unwritten (loaded es) h e = refl
 
 -- each in its range, and 316 ≤ 301 < 315
 abbrev pub Fits : Settings → Type 0
@@ -123,6 +124,8 @@ module _ (h : List Deed) (fits : Fits (settingsAt h)) where
       go handover = fits
       go (offer bytes) = fits
       go (fetch room) = asked (heldAt h) (requestOf (heldAt h))
+      go (save n) = tt
+      go (load area) = λ e. fits
 
 pub ranges : (cells perKm : ℕ) (cs : List Call) → Fits (settingsAt (deedsOf cells perKm cs))
 unfolding deedsOf settingsAt settings.inRange settings.noneBelow settings.ordered

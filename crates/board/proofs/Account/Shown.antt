@@ -4,7 +4,7 @@
 -- Assumes nothing.
 use mathlib.Core.Path.{_≡_, refl, ap, _∙_, subst⁻¹}
 use mathlib.Core.Bool.{Bool, true, false, _&&_, _||_, not, cond, and-false, and-true}
-use mathlib.Core.List.{List, [], _∷_, map, reverse}
+use mathlib.Core.List.{List, [], _∷_, _++_, map, reverse, append-assoc}
 use Prim.Native.Nat.{ℕ, _+_, _*_, _/_, _≤_, _<_, min}
 use native.Mathlib.Omega.{arith}
 use borrow.Author.Tests.{eqb-false}
@@ -13,7 +13,7 @@ use lib.ListN.{length, take, length-append}
 use lib.Seq.{take-append-le}
 use mir.Syntax.{w16}
 use mir.ValLaws.{ofZ-toZ}
-use Rattle.laws.specs.History.{never, since, each, headOr, newest}
+use Rattle.laws.specs.History.{never, since, from, each, headOr, newest}
 use Rattle.laws.proofs.Lists.{latest-taken, take-min, sooner}
 use Rattle.events.specs.declared.Event.{Event}
 use Rattle.events.specs.Events.{capacity, noEvent, latest, keptOf, newOf}
@@ -31,11 +31,12 @@ use Rattle.board.specs.Start.{startBoard}
 use Rattle.board.specs.Calls.{Call}
 use Rattle.board.specs.Behaviour.{afterIn, board}
 use Rattle.board.specs.Demands.{deeds}
-use Rattle.board.specs.Account.{Deed, took, wrote, cleared, forgot, sent, handed, heard, fetched, row, forgets, writing, names, lastOf, settingsAt, latchedAt, chargeAt, dischargeAt, recordedNow, keptSince, newSince, eventsAt, pulsesAt, statisticsAt, distanceAt, boardAt}
+use Rattle.board.specs.Account.{Deed, took, wrote, cleared, forgot, sent, handed, heard, fetched, loaded, row, forgets, writing, names, lastOf, settingsAt, latchedAt, chargeAt, dischargeAt, recordedNow, loading, keptSince, newSince, eventsAt, pulsesAt, statisticsAt, distanceAt, boardAt}
 use Rattle.board.proofs.Account.Settings.{Fits, ranges}
 use Rattle.board.proofs.Demands.Demand2.{account}
 
--- ---- events: the latest 48 recorded since they were forgotten; of these, the ones recorded since the last 0x11; oldest first
+-- ---- events: the latest 48 of those loaded and recorded since they were forgotten; of these, the ones recorded since the last 0x11 or load; oldest
+-- first
 
 pub kept-shown : (h : List Deed) → keptOf (eventsAt h) ≡ reverse (take capacity (keptSince h))
 unfolding eventsAt latest
@@ -45,10 +46,17 @@ kept-shown h =
     ∙ latest-taken capacity (min capacity (length (keptSince h))) noEvent (keptSince h) (omega arith) (omega arith)
     ∙ ap reverse (take-min capacity (keptSince h))
 
+-- the new ones are the newest of those
+pub newest-kept : (h : List Deed) → (older : List Event) × (keptSince h ≡ newSince h ++ older)
+newest-kept h =
+    let older = sooner forgets (λ d. row d .sends) recordedNow h in
+    let before = reverse (loading (from forgets h)) in
+    (older .0 ++ before, ap (λ (es : List Event). es ++ before) (older .1) ∙ append-assoc (newSince h) (older .0) before)
+
 pub new-shown : (h : List Deed) → newOf (eventsAt h) ≡ reverse (take capacity (newSince h))
 unfolding eventsAt latest
 new-shown h =
-    let older = sooner forgets (λ d. row d .sends) recordedNow h in
+    let older = newest-kept h in
     let us = newSince h in
     let some = min capacity (length us) in
     let all : length (keptSince h) ≡ length us + length (older .0) = ap length (older .1) ∙ length-append us (older .0) in
@@ -121,6 +129,7 @@ charge-off (sent ∷ h) c p q = charge-off h c p q
 charge-off (handed ∷ h) c p q = refl
 charge-off (heard bytes ∷ h) c p q = charge-off h c p q
 charge-off (fetched ∷ h) c p q = charge-off h c p q
+charge-off (loaded es ∷ h) c p q = charge-off h c p q
 
 pub discharge-off : (h : List Deed) (c : Condition) → is (latchedAt h) c ≡ true → namesDischarge c ≡ true → dischargeAt h ≡ false
 unfolding dischargeAt latchedAt
@@ -133,6 +142,7 @@ discharge-off (sent ∷ h) c p q = discharge-off h c p q
 discharge-off (handed ∷ h) c p q = refl
 discharge-off (heard bytes ∷ h) c p q = discharge-off h c p q
 discharge-off (fetched ∷ h) c p q = discharge-off h c p q
+discharge-off (loaded es ∷ h) c p q = discharge-off h c p q
 
 -- ---- the same of the board after any calls
 

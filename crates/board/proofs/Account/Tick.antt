@@ -2,7 +2,7 @@
 -- Assumes nothing.
 use mathlib.Core.Path.{_≡_, refl, sym, ap, _∙_}
 use mathlib.Core.Bool.{Bool, true, false, _&&_, _||_, not, cond, or-false}
-use mathlib.Core.List.{List, [], _∷_, _++_, map, append-nil, append-assoc}
+use mathlib.Core.List.{List, [], _∷_, _++_, map, reverse, append-nil, append-assoc}
 use Prim.Native.Nat.{ℕ, suc, _+_, _*_, _-_, _/_, _%_, _≤_, min, max}
 use native.Mathlib.Omega.{arith}
 use borrow.Author.Tests.{ltb-true, ltb-false}
@@ -31,7 +31,7 @@ use Rattle.statistics.specs.Statistics.{hundreds, countOf, countsOf, withExtern
 use Rattle.pack.specs.declared.Clock.{Clock}
 use Rattle.pack.specs.Pack.{laterOf}
 use Rattle.hire.specs.Tick.{chargerEvent}
-use Rattle.board.specs.Account.{Deed, took, clears, hands, ticking, momentOf, momentsAt, settingsAt, countAt, secondsAt, clockAt, latchedAt, waitsAt, rememberedAt, windowAt, chargerAt, statusAt, someEvent, numbersOf, keptSince, newSince, eventsAt, latchings, entering, externals, coldestOf, hottestOf, temperaturesOf, pulsesAt, statisticsAt}
+use Rattle.board.specs.Account.{Deed, took, clears, hands, ticking, momentOf, momentsAt, settingsAt, countAt, secondsAt, clockAt, latchedAt, waitsAt, rememberedAt, windowAt, chargerAt, statusAt, someEvent, numbersOf, recordedNow, forgets, loading, keptSince, newSince, eventsAt, latchings, entering, externals, coldestOf, hottestOf, temperaturesOf, pulsesAt, statisticsAt}
 
 -- ---- time
 clock-same : {a b c d : ℕ} → a ≡ b → c ≡ d → _≡_ {A = Clock} (record { seconds = a; tenths = c }) (record { seconds = b; tenths = d })
@@ -88,8 +88,8 @@ module _ (seconds : ℕ) where
     where
       one : (ks us : List Event) → eventsOf (eventAt seconds n ∷ ks) (eventAt seconds n ∷ us) ≡ addOf (eventsOf ks us) seconds n
       one ks us =
-          let up : (m : ℕ) → min 48 (suc m) ≡ min 48 (min 48 m + 1) = λ m. omega arith in
-          λ i. record { list = sym (pushed 47 noEvent (eventAt seconds n) ks) i; kept = up (length ks) i; unsent = up (length us) i }
+          let up : (m : ℕ) → min capacity (suc m) ≡ min capacity (min capacity m + 1) = λ m. omega arith in
+          λ i. record { list = sym (pushed (capacity - 1) noEvent (eventAt seconds n) ks) i; kept = up (length ks) i; unsent = up (length us) i }
 
   -- rigid, so that the lists are inferred
   record Noted (e : Events) (ns : List ℕ) (e₁ : Events) : Type 0 where
@@ -121,7 +121,11 @@ unfolding eventsAt
 events-next cells r h =
     let s = secondsAt (took cells r ∷ h) in
     let ns = numbersOf (latchedAt h) (latchedAt (took cells r ∷ h)) (chargerAt h) (r .charger) in
-    ap (λ (es : List Event). eventsOf (es ++ keptSince h) (es ++ newSince h)) (append-nil (map (eventAt s) ns))
+    let es = map (eventAt s) ns in
+    let recorded = each recordedNow (since forgets h) in
+    let before = reverse (loading (from forgets h)) in
+    ap (λ (es : List Event). eventsOf (es ++ recorded ++ before) (es ++ newSince h)) (append-nil es)
+    ∙ ap (λ (ks : List Event). eventsOf ks (es ++ newSince h)) (append-assoc es recorded before)
     ∙ added s ns (keptSince h) (newSince h)
     ∙ sym (chain s (latchedAt h) (latchedAt (took cells r ∷ h)) (chargerAt h) (r .charger) (eventsAt h))
 

@@ -12,6 +12,8 @@ use lib.Dec.{eqb, ltb}
 use lib.ListN.{length, take, drop, getD, replicate, length-append, length-replicate}
 use lib.Seq.{drop-append-seam}
 use Rattle.crc.specs.Crc.{crcOf}
+use Rattle.events.specs.Memory.{noArea, areaOf, loadNumber, listOf, eventsIn}
+use Rattle.events.specs.Memory as events
 use Rattle.readings.specs.declared.Judged.the-variants.{Good, WrongCells, WrongCurrent, NoInternal, WrongPulses}
 use Rattle.readings.specs.Readings.{wrongCells, wrongCurrent, noInternal, wrongPulses}
 use Rattle.readings.specs.Readings as readings
@@ -27,8 +29,9 @@ use Rattle.board.specs.declared.Board.{Board}
 use Rattle.requests.specs.declared.Refusal.the-variants.{Foreign, Damaged, Against}
 use Rattle.requests.specs.declared.Request.{Request}
 use Rattle.requests.specs.declared.Request.the-variants as request
-use Rattle.board.specs.State.{usable, withReceiver}
+use Rattle.board.specs.State.{usable, withEvents, withReceiver}
 use Rattle.board.specs.Line.{heldIn, holds, letGo, offerOf, fetchNumber, fetchBoard, fetchReply}
+use Rattle.board.specs.Memory.{saveNumber, loadOf}
 use Rattle.board.specs.Tick.{tickOf, tickedOf}
 use Rattle.pack.specs.Pack.{usableCount, newPack, tickNumber}
 use Rattle.board.specs.Start.{startBoard}
@@ -36,7 +39,7 @@ use Rattle.board.specs.Handover.{handoverOf, handedOver}
 use Rattle.requests.specs.Requests.{le16At, askedOf, requestOf, pairsOf, writeCommand, refusalNumber, commandOf, writtenTo}
 use Rattle.wire.specs.Wire.{sealed, padded, nackOf}
 use Rattle.board.specs.Frames.{bodyOf, tooLong, requestNumber, changedBy, requestBoard, refusalReply, takenReply, writeReply, queryReply, requestReply, frameNumber, frameBoard, frameReply}
-use Rattle.board.specs.Calls.{Call, Seen, step, tick, frame, handover, offer, fetch}
+use Rattle.board.specs.Calls.{Call, Seen, step, tick, frame, handover, offer, fetch, save, load, areaSeen}
 use Rattle.board.specs.Behaviour.{Behaviour, board, afterIn, answersIn}
 use Rattle.board.specs.Account.{Deed, settingsAt, heardAt, heldAt, boardAt}
 use Rattle.board.specs.Numbers.{damaged, against, long, asked, requestRows, rows, first, numberAt, replyBytes}
@@ -81,7 +84,7 @@ nacked-number b s (request.Read q) h k = go (tooLong b q) h
 
 -- of a board that holds no frame but its own
 pub refused : (b : Board) (c : Call) → ((room : ℕ) → fetchNumber b room ≡ 2 → ⊥) → (step b c .1 .number ≡ 0 → ⊥) → nacks c (step b c .1 .number) ≡ false → step b c .0 ≡ b
-unfolding step tickOf handoverOf frameNumber frameBoard offerOf offeredOf fetchNumber fetchBoard
+unfolding step tickOf handoverOf frameNumber frameBoard offerOf offeredOf fetchNumber fetchBoard loadOf events.loadOf
 refused b (tick cells r) own h k = unchanged (tickNumber (b .pack) r (length cells)) b (tickedOf b cells r) (eqb (tickNumber (b .pack) r (length cells)) 0) refl h
 refused b (frame s room) own h k = go (usable b) (ltb room 259) h
   where
@@ -117,6 +120,13 @@ refused b (fetch room) own h k = go (usable b) (ltb room 259) (holds b) (own roo
     go true false true o h k = absurd (false≢true (sym k ∙ nacked-number b s (requestOf s) h o))
     go true false false o h k = refl
     go false t v o h k = refl
+refused b (save n) own h k = refl
+refused b (load area) own h k = go (usable b) (eqb (loadNumber area) 0) refl h
+  where
+    go : (u t : Bool) → eqb (loadNumber area) 0 ≡ t → (cond u (loadNumber area) 21 ≡ 0 → ⊥) → cond u (withEvents b (cond t (listOf (eventsIn area)) (b .hire .events))) b ≡ b
+    go true true e h = absurd (h (eqb-true (loadNumber area) 0 e))
+    go true false e h = refl
+    go false t e h = refl
 
 -- ---- what a refusal leaves of the buffer
 
@@ -192,7 +202,7 @@ module _ (cells perKm : ℕ) (h : List Deed) where
       go false true true = asked-number b s (askedOf c s) (asked-ruled c s .ruled)
 
   tabled : (c : Call) → step (boardAt cells perKm h) c .1 .number ≡ numberAt cells perKm h c
-  unfolding step numberAt rows first tickOf tickNumber handoverOf frameNumber offerOf offeredOf fetchNumber boardAt readings.judgedOf readings.numberOf
+  unfolding step numberAt rows first tickOf tickNumber handoverOf frameNumber offerOf offeredOf fetchNumber saveNumber loadOf events.loadNumber boardAt readings.judgedOf readings.numberOf
   tabled (tick given r) = go (usableCount cells) (wrongCells cells (length given)) (wrongCurrent (r .current)) (noInternal (r .internal)) (wrongPulses perKm (r .pulses))
     where
       go : (u a b c d : Bool) → cond u (readings.numberOf (cond a WrongCells (cond b WrongCurrent (cond c NoInternal (cond d WrongPulses Good))))) 21
@@ -231,6 +241,16 @@ module _ (cells perKm : ℕ) (h : List Deed) where
       go true false true e = e
       go true false false e = refl
       go false u v e = refl
+  tabled (save n) = go (usableCount cells)
+    where
+      go : (u : Bool) → _≡_ {A = ℕ} (cond u (cond (noArea n) 31 0) 21) (cond (not u) 21 (cond (noArea n) 31 0))
+      go true = refl
+      go false = refl
+  tabled (load area) = go (usableCount cells)
+    where
+      go : (u : Bool) → cond u (loadNumber area) 21 ≡ cond (not u) 21 (loadNumber area)
+      go true = refl
+      go false = refl
 
   -- a held frame is the board's own: a fetch never answers 2
   own : (room : ℕ) → fetchNumber (boardAt cells perKm h) room ≡ 2 → ⊥
@@ -321,6 +341,8 @@ leaves b (fetch room) = go (usable b) (ltb room 259) (holds b)
     go true false true = frame-leaves b s room
     go true false false = (padded-length room [] (omega arith), λ h. no-bytes room, λ z. let y : _≡_ {A = ℕ} 7 0 = z in absurd (omega arith))
     go false t v = (padded-length room [] (omega arith), λ h. no-bytes room, λ z. let y : _≡_ {A = ℕ} 21 0 = z in absurd (omega arith))
+leaves b (save n) = refl
+leaves b (load area) = refl
 
 -- ---- a fetch that answers with a NACK
 
@@ -370,7 +392,7 @@ demand1 =
     }
 
 -- ---- number 21 gives back no usable board: any later call on it, handover included, answers 21 before all other numbers, zeroes a lent
--- reply buffer and writes nothing else; of every behaviour that meets the demand
+-- reply buffer and writes nothing else, an area neither; of every behaviour that meets the demand
 
 -- the buffer that a call is lent, zeroed
 abbrev pub Zeroed : Seen → Call → Type 0
@@ -379,6 +401,8 @@ Zeroed a (frame s room) = a .buffer ≡ replicate room 0
 Zeroed a handover = a .buffer ≡ []
 Zeroed a (offer bytes) = (a .buffer ≡ []) × (a .taken ≡ 0)
 Zeroed a (fetch room) = a .buffer ≡ replicate room 0
+Zeroed a (save n) = a .buffer ≡ []
+Zeroed a (load area) = a .buffer ≡ []
 
 module _ (B : Behaviour) (meets : Demand1 B) (cells perKm : ℕ) (none : B .started cells perKm ≡ 21) where
   no-board : usableCount cells ≡ false
@@ -395,6 +419,8 @@ module _ (B : Behaviour) (meets : Demand1 B) (cells perKm : ℕ) (none : B .star
   always-21 h handover = rw no-board refl
   always-21 h (offer bytes) = rw no-board refl
   always-21 h (fetch room) = rw no-board refl
+  always-21 h (save n) = rw no-board refl
+  always-21 h (load area) = rw no-board refl
 
   module _ (cs : List Call) (c : Call) where
     pub answers-21 : B .step (afterIn B (B .start cells perKm) cs) c .1 .number ≡ 21
@@ -412,6 +438,8 @@ module _ (B : Behaviour) (meets : Demand1 B) (cells perKm : ℕ) (none : B .star
         no-nack handover = refl
         no-nack (offer bytes) = refl
         no-nack (fetch room) = refl
+        no-nack (save n) = refl
+        no-nack (load area) = refl
 
     pub zeroes : Zeroed (B .step (afterIn B (B .start cells perKm) cs) c .1) c
     zeroes = go c (meets .leaves cells perKm cs c) answers-21 not-done
@@ -425,3 +453,5 @@ module _ (B : Behaviour) (meets : Demand1 B) (cells perKm : ℕ) (none : B .star
         go handover l e n = l
         go (offer bytes) l e n = (l .0, l .1 n)
         go (fetch room) l e n = l .1 n ∙ ap (λ k. refusedBuffer k (heldIn (boardAt cells perKm (deeds cells perKm cs))) room) e
+        go (save n) l e n′ = l ∙ ap (λ k. areaSeen k (areaOf (boardAt cells perKm (deeds cells perKm cs) .hire .events))) e
+        go (load area) l e n = l

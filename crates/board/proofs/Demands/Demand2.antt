@@ -11,7 +11,7 @@ use Rattle.board.specs.declared.Board.{Board}
 use Rattle.pack.specs.Pack.{newPack}
 use Rattle.hire.specs.Hire.{newHire}
 use Rattle.board.specs.Start.{startBoard}
-use Rattle.board.specs.Calls.{Call, Seen, tick, frame, handover, offer, fetch, step}
+use Rattle.board.specs.Calls.{Call, Seen, tick, frame, handover, offer, fetch, save, load, step}
 use Rattle.board.specs.Behaviour.{afterIn, answersIn, board}
 use Rattle.board.specs.Demands.{Demand2, deeds, told, toldAll}
 use Rattle.board.specs.Account.{settingsAt, secondsAt, clockAt, latchedAt, waitsAt, rememberedAt, sensedAt, windowAt, chargerAt, statusAt, decisionAt, balancingAt, chargeAt, dischargeAt, eventsAt, statisticsAt, heardAt, boardAt, deedsOf}
@@ -38,6 +38,8 @@ module _ (cells perKm : ℕ) where
   seen-after b handover = refl
   seen-after b (offer bytes) = refl
   seen-after b (fetch room) = refl
+  seen-after b (save n) = refl
+  seen-after b (load area) = refl
 
   pub as-told : (h : List Call) (c : Call) → step (boardAt cells perKm (deedsOf cells perKm h)) c .1 ≡ told cells perKm h c
   unfolding told

@@ -18,7 +18,8 @@ use Rattle.pack.specs.Pack.{newPack, tickNumber}
 use Rattle.board.specs.Handover.{handoverOf, handedOver}
 use Rattle.board.specs.Frames.{frameBoard}
 use Rattle.board.specs.Line.{offerOf, fetchBoard}
-use Rattle.board.specs.Calls.{Call, Seen, seen, tick, frame, handover, offer, fetch, step}
+use Rattle.board.specs.Memory.{loadOf}
+use Rattle.board.specs.Calls.{Call, Seen, seen, tick, frame, handover, offer, fetch, save, load, step}
 use Rattle.board.specs.Behaviour.{Behaviour, board, afterIn, answersIn}
 use Rattle.board.specs.Account.{Deed, boardAt, clockAt, secondsAt, countAt}
 use Rattle.board.specs.Demands.{deeds, BothQuiet, SameKept, Demand2, Demand3}
@@ -29,12 +30,14 @@ use Rattle.board.proofs.Demands.Demand2.{account, demand2}
 -- ---- a board that is not usable stays as it is
 
 unusable : (b : Board) (c : Call) → usable b ≡ false → step b c .0 ≡ b
-unfolding step tickOf tickNumber frameBoard handoverOf offerOf fetchBoard
+unfolding step tickOf tickNumber frameBoard handoverOf offerOf fetchBoard loadOf
 unusable b (tick cells r) e = rw e refl
 unusable b (frame s room) e = rw e refl
 unusable b handover e = rw e refl
 unusable b (offer bytes) e = rw e refl
 unusable b (fetch room) e = rw e refl
+unusable b (save n) e = refl
+unusable b (load area) e = rw e refl
 
 stays : (b : Board) (cs : List Call) → usable b ≡ false → afterIn board b cs ≡ b
 unfolding afterIn

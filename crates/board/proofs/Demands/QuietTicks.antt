@@ -18,7 +18,7 @@ use Rattle.guard.proofs.QuietTicks.{Bounded}
 use Rattle.readings.specs.declared.Readings.{Readings}
 use Rattle.settings.specs.declared.Settings.{Settings}
 use Rattle.settings.specs.Settings.{factory, inRange, noneBelow}
-use Rattle.board.specs.Calls.{Call, tick, frame, handover, offer, fetch}
+use Rattle.board.specs.Calls.{Call, tick, frame, handover, offer, fetch, save, load}
 use Rattle.board.specs.Account.{Deed, row, momentOf, momentsAt, countAt, settingsAt, latchedAt, waitsAt, rememberedAt, deedsOf}
 use Rattle.board.specs.Demands.{Quieted, deeds}
 use Rattle.board.proofs.Account.Deeds.{AfterOne, called-so}
@@ -54,6 +54,8 @@ module _ (cells perKm : ℕ) where
       go b handover = tt
       go b (offer bytes) = tt
       go b (fetch room) = λ from n e. b
+      go b (save n) = tt
+      go b (load area) = tt
 
 pub stilled : (cells perKm : ℕ) (cs : List Call) → Quieted 300 (deeds cells perKm cs) → guardAt (deeds cells perKm cs) ≡ noGuard
 unfolding latchedAt waitsAt rememberedAt

@@ -1,0 +1,223 @@
+-- A save followed by a load gives the same list with everything marked as sent, if the kept events have numbers that the board records; and a load
+-- followed by a save gives the area back. Whatever the capacity.
+-- Assumes nothing.
+use mathlib.Core.Path.{_≡_, refl, sym, ap, ap₂, _∙_}
+use mathlib.Core.Bool.{Bool, true, false, _&&_, not, cond, false≢true}
+use mathlib.Core.List.{List, [], _∷_, _++_, append-assoc}
+use Prim.Native.Nat.{ℕ, zero, suc, _+_, _*_, _-_, _/_, _%_, _≤_, _<_, min}
+use native.Mathlib.Omega.{arith}
+use native.Mathlib.Nat.{zero-add, add-zero, sub-zero, suc-sub-suc}
+use borrow.Author.Tests.{eqb-true}
+use lib.Dec.{eqb}
+use lib.ListN.{length, drop, getD, replicate, length-append, length-replicate, length-take, drop-of-length-le}
+use lib.Seq.{drop-cons, drop-at, getD-append-add}
+use Rattle.laws.specs.History.{each, any}
+use Rattle.events.specs.declared.Event.{Event}
+use Rattle.events.specs.declared.Events.{Events}
+use Rattle.events.specs.Events.{capacity, noEvent, latest, keptOf, newOf}
+use Rattle.events.specs.Memory.{areaLength, recordOf, eventIn, noRecord, used, savedOf, areaOf, recordsAt, recordsIn, usedOf, parted, isRecorded, neverRecorded, strange, recordsNumber, loadNumber, listOf, eventsIn, loadOf}
+use Rattle.events.proofs.Records.{length-kept, length-saved, length-each, length-in, used-first, numbered}
+
+-- ---- a record and its four bytes
+
+same-event : {a b : ℕ} → a ≡ b → _≡_ {A = Event} (record { bytes = a }) (record { bytes = b })
+same-event e = λ i. record { bytes = e i }
+
+record-back : (r : Event) → eventIn (r .bytes % 16777216 % 256) (r .bytes % 16777216 / 256 % 256) (r .bytes % 16777216 / 65536) (r .bytes / 16777216) ≡ r
+record-back r = same-event (omega arith)
+
+low-byte : (a x : ℕ) → a < 256 → ((a + 256 * x) % 256 ≡ a) × ((a + 256 * x) / 256 ≡ x)
+low-byte a x h = (omega arith, omega arith)
+
+bytes-back : (a b c d : ℕ) → a < 256 → b < 256 → c < 256 → d < 256 → recordOf (eventIn a b c d) ≡ a ∷ b ∷ c ∷ d ∷ []
+bytes-back a b c d h i j k =
+    let n = a + 256 * b + 65536 * c + 16777216 * d in
+    let t : n % 16777216 ≡ a + 256 * (b + 256 * c) = omega arith in
+    let u : n % 16777216 / 256 ≡ b + 256 * c = ap (λ (m : ℕ). m / 256) t ∙ low-byte a (b + 256 * c) h .1 in
+    let p : n % 16777216 % 256 ≡ a = ap (λ (m : ℕ). m % 256) t ∙ low-byte a (b + 256 * c) h .0 in
+    let q : n % 16777216 / 256 % 256 ≡ b = ap (λ (m : ℕ). m % 256) u ∙ low-byte b c i .0 in
+    let r : n % 16777216 / 65536 ≡ c = omega arith in
+    let s : n / 16777216 ≡ d = omega arith in
+    λ i. p i ∷ q i ∷ r i ∷ s i ∷ []
+
+-- ---- records and their area
+
+-- records read from a place behind other bytes
+read-behind : (p : List ℕ) (rs : List Event) → recordsAt (p ++ each recordOf rs) (length p) (length rs) ≡ rs
+read-behind p [] = refl
+read-behind p (r ∷ rs) =
+    let s = recordOf r ++ each recordOf rs in
+    let byte : (k : ℕ) → getD (p ++ s) (length p + k) 0xFF ≡ getD s k 0xFF = λ k. getD-append-add p s k 0xFF in
+    let first : getD (p ++ s) (length p) 0xFF ≡ getD s 0 0xFF = ap (λ (n : ℕ). getD (p ++ s) n 0xFF) (sym (add-zero (length p))) ∙ byte 0 in
+    let here : eventIn (getD (p ++ s) (length p) 0xFF) (getD (p ++ s) (length p + 1) 0xFF) (getD (p ++ s) (length p + 2) 0xFF) (getD (p ++ s) (length p + 3) 0xFF) ≡ r =
+    (λ i. eventIn (first i) (byte 1 i) (byte 2 i) (byte 3 i)) ∙ record-back r in
+    let there : recordsAt (p ++ s) (length p + 4) (length rs) ≡ rs =
+    ap₂ (λ (l : List ℕ) (n : ℕ). recordsAt l n (length rs)) (sym (append-assoc p (recordOf r) (each recordOf rs))) (sym (length-append p (recordOf r)))
+    ∙ read-behind (p ++ recordOf r) rs in
+    ap₂ {C = List Event} _∷_ here there
+
+pub records-back : (rs : List Event) → length rs ≡ capacity → recordsIn (each recordOf rs) ≡ rs
+unfolding recordsIn
+records-back rs h = ap (recordsAt (each recordOf rs) 0) (sym h) ∙ read-behind [] rs
+
+-- an area of bytes
+abbrev pub Bytes : List ℕ → Type 0
+Bytes area = (i : ℕ) → getD area i 0xFF < 256
+
+first-of : (l : List ℕ) (at to : ℕ) → at < length l → to ≡ suc at → drop at l ≡ getD l at 0xFF ∷ drop to l
+first-of l at to h e = drop-cons l at 0xFF h ∙ ap (λ (n : ℕ). getD l at 0xFF ∷ drop n l) (sym e)
+
+each-back : (area : List ℕ) → Bytes area → (at n : ℕ) → length area ≡ at + 4 * n → each recordOf (recordsAt area at n) ≡ drop at area
+each-back area b at zero h = sym (drop-of-length-le area {i = at} (omega arith))
+each-back area b at (suc n) h =
+    let i = each-back area b (at + 4) n (omega arith) in
+    let one = first-of area at (at + 1) (omega arith) (omega arith) in
+    let two = first-of area (at + 1) (at + 2) (omega arith) (omega arith) in
+    let three = first-of area (at + 2) (at + 3) (omega arith) (omega arith) in
+    let four = first-of area (at + 3) (at + 4) (omega arith) (omega arith) in
+    ap₂ {C = List ℕ} (λ (x y : List ℕ). x ++ y) (bytes-back (getD area at 0xFF) (getD area (at + 1) 0xFF) (getD area (at + 2) 0xFF) (getD area (at + 3) 0xFF) (b at) (b (at + 1)) (b (at + 2)) (b (at + 3))) i
+    ∙ sym (one ∙ ap (λ (l : List ℕ). getD area at 0xFF ∷ l) (two ∙ ap (λ (l : List ℕ). getD area (at + 1) 0xFF ∷ l) (three ∙ ap (λ (l : List ℕ). getD area (at + 2) 0xFF ∷ l) four)))
+
+pub area-back : (area : List ℕ) → Bytes area → length area ≡ areaLength → each recordOf (recordsIn area) ≡ area
+unfolding recordsIn
+area-back area b h = each-back area b 0 capacity (h ∙ sym (zero-add areaLength))
+
+-- ---- used records, and unused ones behind them
+
+-- neither passes
+neither : (t u : Bool) → cond t true u ≡ false → (t ≡ false) × (u ≡ false)
+neither true u e = absurd (false≢true (sym e))
+neither false u e = (refl, e)
+
+-- a number that the board records is none of an unused record
+is-used : (e : Event) → neverRecorded e ≡ false → used e ≡ true
+unfolding isRecorded
+is-used e h = go (eqb (e .bytes) (noRecord .bytes)) refl
+  where
+    go : (t : Bool) → eqb (e .bytes) (noRecord .bytes) ≡ t → not t ≡ true
+    go true q = absurd (false≢true (sym h ∙ ap (λ (n : ℕ). neverRecorded (record { bytes = n })) (eqb-true (e .bytes) (noRecord .bytes) q)))
+    go false q = refl
+
+none-used : (m : ℕ) → any used (replicate m noRecord) ≡ false
+none-used zero = refl
+none-used (suc m) = none-used m
+
+-- what a load makes of records
+abbrev Reads : List Event → List Event → Type 0
+Reads rs ks = (usedOf rs ≡ ks) × (parted rs ≡ false) × (any strange rs ≡ false)
+
+unused-read : (m : ℕ) → Reads (replicate m noRecord) []
+unfolding usedOf parted
+unused-read zero = (refl, refl, refl)
+unused-read (suc m) = (refl, none-used m, unused-read m .2)
+
+kept-read : (m : ℕ) (ks : List Event) → any neverRecorded ks ≡ false → Reads (ks ++ replicate m noRecord) ks
+unfolding usedOf parted
+kept-read m [] h = unused-read m
+kept-read m (k ∷ ks) h =
+    let (known, others) = neither (neverRecorded k) (any neverRecorded ks) h in
+    let (read, whole, ours) = kept-read m ks others in
+    let rs = ks ++ replicate m noRecord in
+    let kept = is-used k known in (
+      ap₂ (λ (t : Bool) (es : List Event). cond t (k ∷ es) []) kept read,
+      ap₂ (λ (t u : Bool). cond t u (any used rs)) kept whole,
+      ap₂ (λ (t u : Bool). cond (t && u) true (any strange rs)) kept known ∙ ours,
+    )
+
+-- a record that is not used is all 0xFF
+unused : (r : Event) → used r ≡ false → r ≡ noRecord
+unused r h = go (eqb (r .bytes) (noRecord .bytes)) refl h
+  where
+    go : (t : Bool) → eqb (r .bytes) (noRecord .bytes) ≡ t → not t ≡ false → r ≡ noRecord
+    go true q h = same-event (eqb-true (r .bytes) (noRecord .bytes) q)
+    go false q h = absurd (false≢true (sym h))
+
+-- with no used record after an unused one, the others are unused
+all-unused : (rs : List Event) → any used rs ≡ false → rs ≡ replicate (length rs) noRecord
+all-unused [] h = refl
+all-unused (r ∷ rs) h =
+    let (this, others) = neither (used r) (any used rs) h in
+    ap₂ {C = List Event} _∷_ (unused r this) (all-unused rs others)
+
+unused-rest : (rs : List Event) → parted rs ≡ false → usedOf rs ++ replicate (length rs - length (usedOf rs)) noRecord ≡ rs
+unfolding usedOf parted
+unused-rest [] h = refl
+unused-rest (r ∷ rs) h = go (used r) refl h (unused-rest rs)
+  where
+    go : (t : Bool) → used r ≡ t → cond t (parted rs) (any used rs) ≡ false
+        → (parted rs ≡ false → usedOf rs ++ replicate (length rs - length (usedOf rs)) noRecord ≡ rs)
+        → cond t (r ∷ usedOf rs) [] ++ replicate (suc (length rs) - length (cond t (r ∷ usedOf rs) [])) noRecord ≡ r ∷ rs
+    go true e h i = ap (λ (n : ℕ). r ∷ usedOf rs ++ replicate n noRecord) (suc-sub-suc (length rs) (length (usedOf rs))) ∙ ap (λ (l : List Event). r ∷ l) (i h)
+    go false e h i = ap (λ (n : ℕ). replicate n noRecord) (sub-zero (suc (length rs))) ∙ sym (ap₂ {C = List Event} _∷_ (unused r e) (all-unused rs h))
+
+-- ---- a list in the last places
+
+module _ (es : List Event) (few : length es ≤ capacity) where
+  pub listed-kept : keptOf (listOf es) ≡ es
+  unfolding latest
+  listed-kept = drop-at (replicate (capacity - length es) noEvent) es (capacity - min capacity (length es)) (length-replicate (capacity - length es) noEvent ∙ omega arith)
+
+  pub listed-new : newOf (listOf es) ≡ []
+  unfolding latest
+  listed-new = drop-of-length-le (listOf es .list) {i = capacity - min (min capacity (length es)) 0} (simp (length-append, length-replicate) (omega arith))
+
+-- ---- a save followed by a load
+
+module _ (e : Events) (long : length (e .list) ≡ capacity) (recorded : any neverRecorded (keptOf e) ≡ false) where
+  read : Reads (savedOf e) (keptOf e)
+  read = kept-read (capacity - length (keptOf e)) (keptOf e) recorded
+
+  records : recordsIn (areaOf e) ≡ savedOf e
+  unfolding areaOf
+  records = records-back (savedOf e) (length-saved e long)
+
+  pub length-area : length (areaOf e) ≡ areaLength
+  unfolding areaOf
+  length-area = length-each (savedOf e) ∙ ap (λ (n : ℕ). 4 * n) (length-saved e long)
+
+  pub saved-events : eventsIn (areaOf e) ≡ keptOf e
+  saved-events = ap usedOf records ∙ read .0
+
+  pub saved-number : loadNumber (areaOf e) ≡ 0
+  saved-number = numbered (areaOf e) length-area ∙ ap recordsNumber records ∙ ap₂ (λ (t u : Bool). cond t 32 (cond u 33 0)) (read .1) (read .2)
+
+  -- the same list, and nothing is new, whatever list it replaces
+  pub save-load : (f : Events) → loadOf f (areaOf e) ≡ record { number = 0; events = listOf (keptOf e) }
+  unfolding loadOf
+  save-load f = rw (saved-number, saved-events)
+
+  pub same-kept : keptOf (listOf (keptOf e)) ≡ keptOf e
+  same-kept = listed-kept (keptOf e) (let n = length-kept e long in omega arith)
+
+  pub none-new : newOf (listOf (keptOf e)) ≡ []
+  none-new = listed-new (keptOf e) (let n = length-kept e long in omega arith)
+
+-- ---- a load followed by a save
+
+-- there are no more of them than records
+pub few-events : (area : List ℕ) → length (eventsIn area) ≤ capacity
+few-events area =
+    let m = ap length (used-first (recordsIn area)) in
+    let n = length-take (length (eventsIn area)) (recordsIn area) in
+    let k = length-in area in
+    omega arith
+
+module _ (area : List ℕ) (done : loadNumber area ≡ 0) where
+  accepted : (length area ≡ areaLength) × (parted (recordsIn area) ≡ false)
+  unfolding loadNumber
+  accepted = go (eqb (length area) areaLength) refl (parted (recordsIn area)) done
+    where
+      go : (t : Bool) → eqb (length area) areaLength ≡ t → (u : Bool) → _≡_ {A = ℕ} (cond (not t) 31 (cond u 32 (cond (any strange (recordsIn area)) 33 0))) 0 → (length area ≡ areaLength) × (u ≡ false)
+      go true q true e = let z : _≡_ {A = ℕ} 32 0 = e in absurd (omega arith)
+      go true q false e = (eqb-true (length area) areaLength q, refl)
+      go false q u e = let z : _≡_ {A = ℕ} 31 0 = e in absurd (omega arith)
+
+  pub load-save : Bytes area → (f : Events) → areaOf (loadOf f area .events) ≡ area
+  unfolding areaOf loadOf
+  load-save b f =
+      let es = eventsIn area in
+      ap (λ (n : ℕ). areaOf (cond (eqb n 0) (listOf es) f)) done
+      ∙ ap (λ (ks : List Event). each recordOf (ks ++ replicate (capacity - length ks) noRecord)) (listed-kept es (few-events area))
+      ∙ ap (λ (n : ℕ). each recordOf (es ++ replicate (n - length es) noRecord)) (sym (length-in area))
+      ∙ ap (each recordOf) (unused-rest (recordsIn area) (accepted .1))
+      ∙ area-back area b (accepted .0)

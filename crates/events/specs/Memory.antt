@@ -1,0 +1,112 @@
+-- Events in the pack's memory (W-205 of document 02): the list in a lent area of 48 records of 4 bytes, no header: the three time bytes and the
+-- event number, oldest first, unused records all 0xFF.
+-- Assumes nothing.
+use mathlib.Core.Bool.{Bool, false, _&&_, _||_, not, cond}
+use mathlib.Core.List.{List, [], _∷_, _++_}
+use mathlib.Core.Path.{_≡_}
+use Prim.Native.Nat.{ℕ, zero, suc, _+_, _*_, _-_, _/_, _%_}
+use lib.Dec.{eqb}
+use lib.ListN.{length, getD, replicate}
+use Rattle.laws.specs.History.{each, any}
+use Rattle.events.specs.declared.Event.{Event}
+use Rattle.events.specs.declared.Events.{Events}
+use Rattle.events.specs.declared.Loaded.{Loaded}
+use Rattle.events.specs.Events.{capacity, timeOf, numberOf, noEvent, keptOf}
+
+-- 48 records of 4 bytes
+abbrev pub areaLength : ℕ
+areaLength = 4 * capacity
+
+-- 31, area not 192 bytes
+abbrev pub noArea : ℕ → Bool
+noArea n = not (eqb n areaLength)
+
+-- a record: the three time bytes, the low byte first, and the event number
+abbrev pub recordOf : Event → List ℕ
+recordOf e = timeOf e % 256 ∷ timeOf e / 256 % 256 ∷ timeOf e / 65536 ∷ numberOf e ∷ []
+
+-- the event of four bytes
+abbrev pub eventIn : ℕ → ℕ → ℕ → ℕ → Event
+eventIn a b c d = record { bytes = a + 256 * b + 65536 * c + 16777216 * d }
+
+-- an unused record: all 0xFF
+abbrev pub noRecord : Event
+noRecord = eventIn 0xFF 0xFF 0xFF 0xFF
+
+abbrev pub used : Event → Bool
+used e = not (eqb (e .bytes) (noRecord .bytes))
+
+-- ---- saving
+
+-- the records of a saved list: all that are kept, oldest first, then unused ones
+abbrev pub savedOf : Events → List Event
+savedOf e = keptOf e ++ replicate (capacity - length (keptOf e)) noRecord
+
+unfoldable pub areaOf : Events → List ℕ
+areaOf e = each recordOf (savedOf e)
+
+-- an area refused on saving is not written
+abbrev pub saveNumber : ℕ → ℕ
+saveNumber n = cond (noArea n) 31 0
+
+pub record Saves (e : Events) (before : List ℕ) (number : ℕ) (after : List ℕ) : Type 0 where
+  pub number-is : number ≡ saveNumber (length before)
+  pub area : after ≡ cond (noArea (length before)) before (areaOf e)
+
+-- ---- loading
+
+-- n records from a place on, and all of an area; a byte past its end reads 0xFF
+abbrev pub recordsAt : List ℕ → ℕ → ℕ → List Event
+recordsAt area at zero = []
+recordsAt area at (suc n) =
+    eventIn (getD area at 0xFF) (getD area (at + 1) 0xFF) (getD area (at + 2) 0xFF) (getD area (at + 3) 0xFF) ∷ recordsAt area (at + 4) n
+
+unfoldable pub recordsIn : List ℕ → List Event
+recordsIn area = recordsAt area 0 capacity
+
+-- those before the first unused one
+unfoldable pub usedOf : List Event → List Event
+usedOf [] = []
+usedOf (e ∷ es) = cond (used e) (e ∷ usedOf es) []
+
+-- 32, a used record after an unused one
+unfoldable pub parted : List Event → Bool
+parted [] = false
+parted (e ∷ es) = cond (used e) (parted es) (any used es)
+
+-- the event numbers that this board records: the table's, at latching and at recovery, and the charger's two
+abbrev pub recordedNumbers : List ℕ
+recordedNumbers = 0x02 ∷ 0x7B ∷ 0x03 ∷ 0x79 ∷ 0x04 ∷ 0x73 ∷ 0x05 ∷ 0x77 ∷ 0x06 ∷ 0x76 ∷ 0x07 ∷ 0x78 ∷ 0x37 ∷ 0x74 ∷ 0x64 ∷ 0x65 ∷ []
+
+abbrev pub isIn : ℕ → List ℕ → Bool
+isIn n [] = false
+isIn n (m ∷ ms) = eqb n m || isIn n ms
+
+unfoldable pub isRecorded : ℕ → Bool
+isRecorded n = isIn n recordedNumbers
+
+abbrev pub neverRecorded : Event → Bool
+neverRecorded e = not (isRecorded (numberOf e))
+
+-- 33, an event number this board never records
+abbrev pub strange : Event → Bool
+strange e = used e && neverRecorded e
+
+-- the lowest that applies
+abbrev pub recordsNumber : List Event → ℕ
+recordsNumber es = cond (parted es) 32 (cond (any strange es) 33 0)
+
+unfoldable pub loadNumber : List ℕ → ℕ
+loadNumber area = cond (noArea (length area)) 31 (recordsNumber (recordsIn area))
+
+-- those events in the last places, and everything marked as sent
+abbrev pub listOf : List Event → Events
+listOf es = record { list = replicate (capacity - length es) noEvent ++ es; kept = length es; unsent = 0 }
+
+-- the events of an area, oldest first
+abbrev pub eventsIn : List ℕ → List Event
+eventsIn area = usedOf (recordsIn area)
+
+-- a load replaces the list; one that is refused leaves it as it was
+unfoldable pub loadOf : Events → List ℕ → Loaded
+loadOf e area = record { number = loadNumber area; events = cond (eqb (loadNumber area) 0) (listOf (eventsIn area)) e }

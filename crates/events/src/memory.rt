@@ -1,0 +1,206 @@
+// Events in the pack's memory: the kept ones as records of four bytes in a lent area, and a list from such an area.
+ghost use mathlib.Core.Path.{_≡_};
+ghost use Prim.Native.Nat.{_+_, _*_, _≤_, _<_};
+ghost use lib.ListN.{length, getD, drop};
+ghost use lib.Seq.{sets};
+ghost use Rattle.laws.specs.History.{any};
+ghost use Rattle.events.specs.Events.{capacity, placed};
+ghost use Rattle.events.specs.Memory.{recordOf, used, savedOf, Saves, recordsIn, isRecorded, strange, loadNumber, listOf, eventsIn, loadOf};
+use crate::AREA;
+use crate::CAPACITY;
+use crate::Event;
+use crate::Events;
+use crate::Loaded;
+
+impl Events {
+    // Every record of the area; 31, and nothing written, where it is none. Nothing is marked.
+    pub fn save(self, area: &mut [u8]) -> u8
+        ensures { λ r. ⌜ Saves self (now (area .entry)) r (now (area .exit)) ⌝ }
+    {
+        if area.len() != AREA {
+            return 31;
+        }
+        let mut i = 0;
+        while i < CAPACITY {
+            put_record(area, i, self.record_at(i));
+            i += 1;
+        }
+        0
+    }
+
+    // The events of the area in the place of these, all of them sent; refused, these as they were.
+    pub fn load(self, area: &[u8]) -> Loaded
+        ensures { λ r. ⌜ r ≡ loadOf self (now (area .entry)) ⌝ }
+    {
+        let number = load_number(area);
+        if number != 0 {
+            return Loaded {
+                number,
+                events: self,
+            };
+        }
+        Loaded {
+            number,
+            events: list_in(area),
+        }
+    }
+
+    // The i-th record of a saved list: a kept event, or none.
+    fn record_at(self, i: usize) -> Event
+        requires { ⌜ i < capacity ⌝ }
+        ensures { λ r. ⌜ r ≡ placed (savedOf self) i ⌝ }
+    {
+        if i < (self.kept_count() as usize) {
+            return self.kept_at(i as u16);
+        }
+        Event { bytes: 0xFFFFFFFF }
+    }
+}
+
+impl Event {
+    // All four bytes 0xFF are no event.
+    fn is_used(self) -> bool
+        ensures { λ r. ⌜ r ≡ used self ⌝ }
+    {
+        self.bytes != 0xFFFFFFFF
+    }
+
+    // A used record with an event number that the board never records.
+    fn is_strange(self) -> bool
+        ensures { λ r. ⌜ r ≡ strange self ⌝ }
+    {
+        self.is_used() & !is_recorded(self.number())
+    }
+}
+
+// The table's numbers, at latching and at recovery, and the charger's two.
+fn is_recorded(number: u8) -> bool
+    ensures { λ r. ⌜ r ≡ isRecorded number ⌝ }
+{
+    (number == 0x02)
+        | (number == 0x7B)
+        | (number == 0x03)
+        | (number == 0x79)
+        | (number == 0x04)
+        | (number == 0x73)
+        | (number == 0x05)
+        | (number == 0x77)
+        | (number == 0x06)
+        | (number == 0x76)
+        | (number == 0x07)
+        | (number == 0x78)
+        | (number == 0x37)
+        | (number == 0x74)
+        | (number == 0x64)
+        | (number == 0x65)
+}
+
+// Three time bytes, the low byte first, and the event's number.
+fn put_record(area: &mut [u8], i: usize, event: Event)
+    requires { ⌜ 4 * i + 4 ≤ length (now area) ⌝ }
+    ensures { λ _. ⌜ now (area .exit) ≡ sets (now (area .entry)) (4 * i) (recordOf event) ⌝ }
+{
+    let time = event.time();
+    let at = 4 * i;
+    area[at] = (time % 256) as u8;
+    area[at + 1] = (time / 256 % 256) as u8;
+    area[at + 2] = (time / 65536) as u8;
+    area[at + 3] = event.number();
+}
+
+// The i-th record of an area.
+fn record_in(area: &[u8], i: usize) -> Event
+    requires { ⌜ i < capacity ⌝ }
+    ensures { λ r. ⌜ r ≡ placed (recordsIn (now (area .entry))) i ⌝ }
+{
+    let at = 4 * i;
+    let low = (byte_at(area, at) as u32) + 256 * (byte_at(area, at + 1) as u32);
+    let high = (byte_at(area, at + 2) as u32) + 256 * (byte_at(area, at + 3) as u32);
+    Event {
+        bytes: low + 65536 * high,
+    }
+}
+
+// Past the end 0xFF.
+fn byte_at(area: &[u8], i: usize) -> u8
+    ensures { λ r. ⌜ r ≡ getD (now (area .entry)) i 0xFF ⌝ }
+{
+    if i < area.len() { area[i] } else { 0xFF }
+}
+
+// How many records there are before the first unused one.
+fn used_count(area: &[u8]) -> usize
+    ensures { λ r. ⌜ (r ≡ length (eventsIn (now (area .entry)))) × (r ≤ capacity) ⌝ }
+{
+    let mut i = 0;
+    while i < CAPACITY {
+        if !record_in(area, i).is_used() {
+            return i;
+        }
+        i += 1;
+    }
+    i
+}
+
+// Is one of the records used, from a place on?
+fn is_used_from(area: &[u8], from: usize) -> bool
+    requires { ⌜ from ≤ capacity ⌝ }
+    ensures { λ r. ⌜ r ≡ any used (drop from (recordsIn (now (area .entry)))) ⌝ }
+{
+    let mut i = from;
+    while i < CAPACITY {
+        if record_in(area, i).is_used() {
+            return true;
+        }
+        i += 1;
+    }
+    false
+}
+
+// Has one of the records an event number that the board never records?
+fn has_strange(area: &[u8]) -> bool
+    ensures { λ r. ⌜ r ≡ any strange (recordsIn (now (area .entry))) ⌝ }
+{
+    let mut i = 0;
+    while i < CAPACITY {
+        if record_in(area, i).is_strange() {
+            return true;
+        }
+        i += 1;
+    }
+    false
+}
+
+// 31, 32, 33: the lowest that applies.
+fn load_number(area: &[u8]) -> u8
+    ensures { λ r. ⌜ r ≡ loadNumber (now (area .entry)) ⌝ }
+{
+    if area.len() != AREA {
+        return 31;
+    }
+    if is_used_from(area, used_count(area)) {
+        return 32;
+    }
+    if has_strange(area) {
+        return 33;
+    }
+    0
+}
+
+// The used records in the last places, none of them new.
+fn list_in(area: &[u8]) -> Events
+    ensures { λ r. ⌜ r ≡ listOf (eventsIn (now (area .entry))) ⌝ }
+{
+    let count = used_count(area);
+    let mut list = [Event { bytes: 0 }; CAPACITY];
+    let mut i = 0;
+    while i < count {
+        list[CAPACITY - count + i] = record_in(area, i);
+        i += 1;
+    }
+    Events {
+        list,
+        kept: count as u8,
+        unsent: 0,
+    }
+}
