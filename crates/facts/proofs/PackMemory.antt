@@ -1,4 +1,4 @@
--- W-205: the event numbers that a load takes are exactly those that ticks record, so the kept events of every board reached from a start have such
+-- W-205 and W-207: the event numbers that a load takes are exactly those that ticks record, so the kept events of every board reached from a start have such
 -- numbers; a save followed by a load gives the same list with everything marked as sent, and a load followed by a save gives the area back.
 -- Assumes nothing.
 use mathlib.Core.Path.{_≡_, refl, sym, ap, _∙_, subst⁻¹}
@@ -15,9 +15,9 @@ use Rattle.events.specs.declared.Event.{Event}
 use Rattle.events.specs.declared.Events.{Events}
 use Rattle.events.specs.declared.Loaded.{Loaded}
 use Rattle.events.specs.Events.{capacity, eventAt, numberOf, noEvent, keptOf, sentOf}
-use Rattle.events.specs.Memory.{areaLength, recordedNumbers, isIn, isRecorded, neverRecorded, used, strange, usedOf, parted, recordsIn, areaOf, loadNumber, listOf, eventsIn}
+use Rattle.events.specs.Memory.{areaLength, oldLength, neitherArea, recordedNumbers, isIn, isRecorded, neverRecorded, used, strange, usedOf, parted, recordsIn, areaOf, loadNumber, listOf, eventsIn}
 use Rattle.events.specs.Memory as memory
-use Rattle.events.proofs.Saved.{Bytes, save-load, load-save}
+use Rattle.events.proofs.Saved.{Bytes, wholeOf, save-load, load-save, old-loads}
 use Rattle.guard.specs.declared.Conditions.{Conditions}
 use Rattle.guard.specs.declared.Condition.{Condition}
 use Rattle.guard.specs.declared.Condition.the-variants.{UV, OV, OT, DOC, COC, ROC, LT}
@@ -143,13 +143,13 @@ used-known (r ∷ rs) h = go (used r) (neverRecorded r) refl h (used-known rs)
 
 area-known : (area : List ℕ) → eqb (loadNumber area) 0 ≡ true → All Known (eventsIn area)
 unfolding loadNumber
-area-known area = go (eqb (length area) areaLength) (parted (recordsIn area)) (any strange (recordsIn area)) refl
+area-known area = go (neitherArea (length area)) (parted (recordsIn area)) (any strange (recordsIn area)) refl
   where
-    go : (t u v : Bool) → any strange (recordsIn area) ≡ v → eqb (cond (not t) 31 (cond u 32 (cond v 33 0))) 0 ≡ true → All Known (eventsIn area)
-    go true true v e h = absurd (false≢true h)
-    go true false true e h = absurd (false≢true h)
-    go true false false e h = used-known (recordsIn area) e
-    go false u v e h = absurd (false≢true h)
+    go : (t u v : Bool) → any strange (recordsIn area) ≡ v → eqb (cond t 31 (cond u 32 (cond v 33 0))) 0 ≡ true → All Known (eventsIn area)
+    go true u v e h = absurd (false≢true h)
+    go false true v e h = absurd (false≢true h)
+    go false false true e h = absurd (false≢true h)
+    go false false false e h = used-known (recordsIn area) e
 
 abbrev KeptKnown : List Deed → Type 0
 KeptKnown h = All Known (keptSince h)
@@ -271,7 +271,7 @@ module _ (cells perKm : ℕ) (cs : List Call) (some : usableCount cells ≡ true
           subst⁻¹ Loads (account cells perKm cs)
           (rw some (ap (λ (l : Loaded). withEvents made (l .events)) (back (made .hire .events))), rw some (ap (λ (l : Loaded). l .number) (back (made .hire .events))))
 
--- ---- a load followed by a save gives the area back, of any usable board
+-- ---- a load followed by a save gives the area back, an old one with unused records after it, of any usable board
 
 area-bytes : (area : List ℕ) → All (λ byte. byte ≤ 255) area → Bytes area
 area-bytes [] p i = omega arith
@@ -279,9 +279,17 @@ area-bytes (byte ∷ area) p zero = let most = p .0 in omega arith
 area-bytes (byte ∷ area) p (suc i) = area-bytes area (p .1) i
 
 pub load-then-save : (b : Board) (area : List ℕ) → usable b ≡ true → All (λ byte. byte ≤ 255) area → loadNumber area ≡ 0
-    → step (step b (load area) .0) (save areaLength) .1 .buffer ≡ area
+    → step (step b (load area) .0) (save areaLength) .1 .buffer ≡ wholeOf area
 unfolding step saveNumber loadOf
 load-then-save b area some bytes done = rw (some, some) (load-save area done (area-bytes area bytes) (b .hire .events))
+
+-- ---- an old area loads as the area it makes with unused records after it, whatever the board
+
+pub old-load : (b : Board) (old : List ℕ) → length old ≡ oldLength → loadOf b old ≡ loadOf b (old ++ replicate (areaLength - oldLength) 0xFF)
+unfolding loadOf memory.loadOf
+old-load b old h =
+    let e = old-loads (b .hire .events) old h in
+    λ i. record { number = cond (usable b) (e i .number) 21; board = cond (usable b) (withEvents b (e i .events)) b }
 
 -- ---- a load changes the events alone; a save changes nothing
 
