@@ -8,7 +8,8 @@ use Prim.Native.Nat.{ℕ, zero, suc, _+_, _-_, _≤_, min}
 use native.Mathlib.Omega.{arith}
 use lib.Dec.{eqb}
 use lib.IntN.{pos, negsuc}
-use lib.ListN.{length, take, getD, replicate, length-take, length-reverse}
+use lib.ListN.{length, take, drop, getD, replicate, length-take, length-reverse}
+use Rattle.crc.specs.Crc.{crcOf}
 use Rattle.laws.specs.History.{since, from, each, any, latest}
 use Rattle.laws.proofs.Lists.{latest-few, length-latest}
 use Rattle.events.specs.declared.Event.{Event}
@@ -27,7 +28,7 @@ use Rattle.pack.specs.Pack.{usableCount}
 use Rattle.readings.specs.declared.Readings.{Readings}
 use Rattle.requests.specs.declared.Request.{Request}
 use Rattle.requests.specs.declared.Request.the-variants as request
-use Rattle.requests.specs.Requests.{requestOf}
+use Rattle.requests.specs.Requests.{le16At, requestOf}
 use Rattle.board.specs.declared.Board.{Board}
 use Rattle.board.specs.State.{usable, withEvents}
 use Rattle.board.specs.Start.{startBoard}
@@ -42,7 +43,7 @@ use Rattle.board.proofs.Demands.Demand2.{account}
 use Rattle.board.proofs.Opened.{opened}
 use Rattle.facts.proofs.Calls.{flow, events}
 use Rattle.facts.proofs.Invariants.{All, all-append, all-reversed}
-use Rattle.facts.proofs.Ticks.{fresh, after, storm, still, recorded}
+use Rattle.facts.proofs.Ticks.{fresh, after, storm, still, alternately, recorded}
 
 -- ---- each number in the list is recorded by a tick: all of them in one history, computed
 
@@ -348,6 +349,40 @@ pub refused-loads :
     ≡ (0, 0) ∷ (31, 0) ∷ (31, 0) ∷ (32, 0) ∷ (33, 0) ∷ (0, 8) ∷ []
 unfolding opened
 refused-loads = refl
+
+-- W-207: an old area loads as its events, all sent; a save into one is refused, and so is a load of another length
+pub old-area :
+    told (answers 4 (load (take oldLength two) ∷ new-events ∷ events ∷ save oldLength ∷ load (take 191 two) ∷ load (take 193 two) ∷ events ∷ []))
+    ≡ (0, 0) ∷ (0, 4) ∷ (0, 12) ∷ (31, 0) ∷ (31, 0) ∷ (31, 0) ∷ (0, 12) ∷ []
+unfolding opened
+old-area = refl
+
+-- ---- W-207: 62 events are a reply payload of 252, in a frame of 257 bytes: its number, its first bytes up to the first event, whether the CRC of
+-- 255 bytes stands behind them, and what is behind the frame in a buffer of 259
+
+abbrev framed : Seen → ℕ × List ℕ × Bool × List ℕ
+framed a = (a .number, take 11 (a .buffer), eqb (crcOf (take 255 (a .buffer))) (le16At (a .buffer) 255), drop 257 (a .buffer))
+
+-- the charger comes and goes for n ticks, then all are sent, and the new ones
+abbrev full : ℕ → List (ℕ × List ℕ × Bool × List ℕ)
+full n = map framed (drop n (answers 4 (alternately n (flow (pos 0) 0 true) (flow (pos 0) 0 false) ++ (events ∷ new-events ∷ []))))
+
+-- 62 are kept, the first that was recorded at the head; of 63 the first is gone
+pub sixty-two :
+    full 62
+    ≡ (0, (0xAA ∷ 0x12 ∷ 252 ∷ 6 ∷ 0 ∷ 0 ∷ 0 ∷ 0 ∷ 0 ∷ 0 ∷ 0x64 ∷ []), true, (0 ∷ 0 ∷ []))
+    ∷ (0, (0xAA ∷ 0x11 ∷ 252 ∷ 6 ∷ 0 ∷ 0 ∷ 0 ∷ 0 ∷ 0 ∷ 0 ∷ 0x64 ∷ []), true, (0 ∷ 0 ∷ []))
+    ∷ []
+unfolding opened alternately
+sixty-two = refl
+
+pub sixty-three :
+    full 63
+    ≡ (0, (0xAA ∷ 0x12 ∷ 252 ∷ 6 ∷ 0 ∷ 0 ∷ 0 ∷ 0 ∷ 0 ∷ 0 ∷ 0x65 ∷ []), true, (0 ∷ 0 ∷ []))
+    ∷ (0, (0xAA ∷ 0x11 ∷ 252 ∷ 6 ∷ 0 ∷ 0 ∷ 0 ∷ 0 ∷ 0 ∷ 0 ∷ 0x65 ∷ []), true, (0 ∷ 0 ∷ []))
+    ∷ []
+unfolding opened alternately
+sixty-three = refl
 
 -- 21 before all others
 pub no-board : map {B = ℕ × List ℕ} (λ a. (a .number, a .buffer)) (answers 3 (save areaLength ∷ save 0 ∷ load two ∷ load [] ∷ [])) ≡ replicate 4 (21, [])

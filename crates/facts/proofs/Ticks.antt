@@ -77,7 +77,7 @@ unfolding reading
 storm current charger = (29000 ∷ 42000 ∷ 37000 ∷ 37000 ∷ [], reading current (pos 600) (pos 0) 0 charger)
 
 -- n of them, two in turn
-pub alternately : {A : Type 0} → ℕ → A → A → List A
+unfoldable pub alternately : {A : Type 0} → ℕ → A → A → List A
 alternately zero x y = []
 alternately (suc n) x y = x ∷ alternately n y x
 
