@@ -4,7 +4,7 @@
 -- Assumes nothing.
 use mathlib.Core.Path.{_≡_, refl, sym, ap, ap₂, _∙_, subst⁻¹}
 use mathlib.Core.Bool.{Bool, true, false, _&&_, not, cond, false≢true}
-use mathlib.Core.List.{List, [], _∷_, _++_, append-assoc}
+use mathlib.Core.List.{List, [], _∷_, _++_, append-assoc, append-nil}
 use Prim.Native.Nat.{ℕ, zero, suc, _+_, _*_, _-_, _/_, _%_, _≤_, _<_, min}
 use native.Mathlib.Omega.{arith}
 use native.Mathlib.Nat.{zero-add, add-zero, sub-zero, suc-sub-suc}
@@ -271,9 +271,12 @@ old-save-load es few recorded f =
 
 -- ---- a load followed by a save
 
--- the area with unused records after it
+-- the area with unused records after it; one of all its bytes has none
 abbrev pub wholeOf : List ℕ → List ℕ
 wholeOf area = area ++ replicate (areaLength - length area) 0xFF
+
+pub whole-same : (area : List ℕ) → length area ≡ areaLength → wholeOf area ≡ area
+whole-same area h = ap (λ (n : ℕ). area ++ replicate (areaLength - n) 0xFF) h ∙ append-nil area
 
 -- there are no more of them than records
 pub few-events : (area : List ℕ) → length (eventsIn area) ≤ capacity
