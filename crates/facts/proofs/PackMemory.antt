@@ -18,7 +18,7 @@ use Rattle.events.specs.declared.Loaded.{Loaded}
 use Rattle.events.specs.Events.{capacity, eventAt, numberOf, noEvent, keptOf, sentOf}
 use Rattle.events.specs.Memory.{areaLength, oldLength, neitherArea, recordedNumbers, isIn, isRecorded, neverRecorded, used, strange, usedOf, parted, recordsIn, areaOf, loadNumber, listOf, eventsIn}
 use Rattle.events.specs.Memory as memory
-use Rattle.events.proofs.Saved.{Bytes, wholeOf, save-load, load-save, old-loads}
+use Rattle.events.proofs.Saved.{Bytes, wholeOf, whole-same, save-load, load-save, old-loads}
 use Rattle.guard.specs.declared.Conditions.{Conditions}
 use Rattle.guard.specs.declared.Condition.{Condition}
 use Rattle.guard.specs.declared.Condition.the-variants.{UV, OV, OT, DOC, COC, ROC, LT}
@@ -279,10 +279,14 @@ area-bytes [] p i = omega arith
 area-bytes (byte ∷ area) p zero = let most = p .0 in omega arith
 area-bytes (byte ∷ area) p (suc i) = area-bytes area (p .1) i
 
-pub load-then-save : (b : Board) (area : List ℕ) → usable b ≡ true → All (λ byte. byte ≤ 255) area → loadNumber area ≡ 0
+pub load-then-save-whole : (b : Board) (area : List ℕ) → usable b ≡ true → All (λ byte. byte ≤ 255) area → loadNumber area ≡ 0
     → step (step b (load area) .0) (save areaLength) .1 .buffer ≡ wholeOf area
 unfolding step saveNumber loadOf
-load-then-save b area some bytes done = rw (some, some) (load-save area done (area-bytes area bytes) (b .hire .events))
+load-then-save-whole b area some bytes done = rw (some, some) (load-save area done (area-bytes area bytes) (b .hire .events))
+
+pub load-then-save : (b : Board) (area : List ℕ) → usable b ≡ true → All (λ byte. byte ≤ 255) area → loadNumber area ≡ 0 → length area ≡ areaLength
+    → step (step b (load area) .0) (save areaLength) .1 .buffer ≡ area
+load-then-save b area some bytes done long = load-then-save-whole b area some bytes done ∙ whole-same area long
 
 -- ---- an old area loads as the area it makes with unused records after it, whatever the board
 
