@@ -20,7 +20,7 @@ static void put_event(struct script *script, uint8_t *record, int number)
 /* What another pack may have saved. */
 static void fill_area(struct script *script, uint8_t area[AREA_BYTES])
 {
-    static const int counts[] = {0, 1, EVENTS_KEPT - 1, EVENTS_KEPT, EVENTS_KEPT};
+    static const int counts[] = {0, 1, 47, 48, 49, EVENTS_KEPT - 1, EVENTS_KEPT, EVENTS_KEPT};
     const int used = one_in(script, 2) ? PICK(script, counts) : between(script, 0, EVENTS_KEPT);
     memset(area, 0xFF, AREA_BYTES);
     for (int at = 0; at < used; at++)
@@ -35,10 +35,10 @@ static void nearly_unuse(struct script *script, uint8_t *record)
 }
 
 /* "a used record after an unused one" */
-static void leave_gap(struct script *script, uint8_t area[AREA_BYTES])
+static void leave_gap(struct script *script, uint8_t *area, int records)
 {
-    const int first = between(script, 0, EVENTS_KEPT - 2), next = first + 1;
-    const int later = one_in(script, 3) ? next : between(script, next, EVENTS_KEPT - 1);
+    const int first = between(script, 0, records - 2), next = first + 1;
+    const int later = one_in(script, 3) ? next : between(script, next, records - 1);
     memset(area + AREA_RECORD * first, 0xFF, AREA_RECORD);
     put_event(script, area + AREA_RECORD * later, PICK(script, recorded));
 }
@@ -52,27 +52,37 @@ static void renumber(struct script *script, uint8_t *record)
         record[3] = (uint8_t)between(script, 0, 255);
 }
 
+/* Some used record, the first unused one, or (seldom) any. */
+static uint8_t *pick_record(struct script *script, uint8_t *area, int records)
+{
+    int used = 0;
+    while (used < records - 1 && area[AREA_RECORD * used + 3] != 0xFF)
+        used++;
+    return area + AREA_RECORD * between(script, 0, one_in(script, 4) ? records - 1 : used);
+}
+
 static size_t damage(struct script *script, uint8_t area[MOST_BYTES], size_t length)
 {
-    static const int lengths[] = {0, 1, 4, AREA_BYTES - 4, AREA_BYTES - 1, AREA_BYTES + 1, AREA_BYTES + 4, 300};
-    int used = 0;
-    while (used < EVENTS_KEPT - 1 && area[AREA_RECORD * used + 3] != 0xFF)
-        used++;
-    uint8_t *any = area + AREA_RECORD * between(script, 0, one_in(script, 4) ? EVENTS_KEPT - 1 : used);
+    static const int lengths[] = {0, 1, OLD_AREA_BYTES - 4, OLD_AREA_BYTES - 1, OLD_AREA_BYTES, OLD_AREA_BYTES + 1,
+                                  OLD_AREA_BYTES + 4, AREA_BYTES - 4, AREA_BYTES - 1, AREA_BYTES, AREA_BYTES + 1,
+                                  AREA_BYTES + 4, 300};
+    const int records = (length == OLD_AREA_BYTES ? OLD_AREA_BYTES : AREA_BYTES) / AREA_RECORD;
+    uint8_t *record = pick_record(script, area, records);
     switch (between(script, 0, 6)) {
     case 0: return (size_t)PICK(script, lengths);
-    case 1: leave_gap(script, area); break;
-    case 2: put_event(script, any, PICK(script, recorded)); break;
-    case 3: nearly_unuse(script, any); break;
-    case 4: any[between(script, 0, AREA_RECORD - 1)] ^= (uint8_t)(1 << between(script, 0, 7)); break;
-    default: renumber(script, any); break;
+    case 1: leave_gap(script, area, records); break;
+    case 2: put_event(script, record, PICK(script, recorded)); break;
+    case 3: nearly_unuse(script, record); break;
+    case 4: record[between(script, 0, AREA_RECORD - 1)] ^= (uint8_t)(1 << between(script, 0, 7)); break;
+    default: renumber(script, record); break;
     }
     return length;
 }
 
+/* An old area is the first records of one of today's. */
 size_t make_area(struct script *script, uint8_t area[MOST_BYTES])
 {
-    size_t length = AREA_BYTES;
+    size_t length = one_in(script, 3) ? OLD_AREA_BYTES : AREA_BYTES;
     memset(area, one_in(script, 2) ? 0xFF : 0x02, MOST_BYTES);
     memcpy(area, script->saved, AREA_BYTES);
     if (one_in(script, 2))

@@ -7,8 +7,8 @@
 #include <stdint.h>
 
 /* "Numbers the caller gets", 6 and 7 of W-201, 31 to 33 of W-205, 61 and 62 of W-211. Number 5 (a reply payload above
-   254 bytes) has no place here: a register block lies in one range, so its payload is 200 bytes at most, 48 events make
-   196, and a list of 63 registers makes 252. */
+   254 bytes) has no place here: a register block lies in one range, so its payload is 200 bytes at most, and 62 events
+   make 252, as a list of 63 registers does. */
 enum number {
     DONE = 0,
     ROOM_TOO_SMALL = 1,
@@ -35,9 +35,10 @@ enum {
     LEAST_ROOM = 259,
     LONGEST_REQUEST = 264,  /* a 0x10 whose PL is 255 */
     NOT_CONNECTED = -32768,
-    EVENTS_KEPT = 48,
+    EVENTS_KEPT = 62,       /* W-207 */
     AREA_RECORD = 4,        /* bytes of a saved event: three of time, and its number */
     AREA_BYTES = EVENTS_KEPT * AREA_RECORD,
+    OLD_AREA_BYTES = 192,   /* of an area that was saved before W-207 */
     WINDOW = 10             /* ticks that the speed looks back on */
 };
 
@@ -105,7 +106,7 @@ struct board {
     uint16_t need, real;                /* the balancing bits, registers 51 and 52 */
     bool charge_switch, discharge_switch;
     struct statistics statistics;
-    struct event event[EVENTS_KEPT];    /* the event noted as number n lies at n modulo 48 */
+    struct event event[EVENTS_KEPT];    /* the event noted as number n lies at n modulo 62 */
     uint64_t events_noted, events_sent; /* since their clear or load; sent: loaded, or noted before the latest 0x11 */
     struct receiver receiver;
 };

@@ -1,4 +1,4 @@
-/* W-205: the kept events in the pack's memory. */
+/* W-205: the kept events in the pack's memory; W-207: 62 of them. */
 #include "board.h"
 
 #include <string.h>
@@ -23,8 +23,8 @@ static bool is_used(const uint8_t record[AREA_RECORD])
     return record[0] != 0xFF || record[1] != 0xFF || record[2] != 0xFF || record[3] != 0xFF;
 }
 
-/* "Save the list into a lent area of 48 records of 4 bytes, no header: ... oldest first, unused records all 0xFF."
-   "An area refused on saving is not written". */
+/* "Save the list into a lent area of ... records of 4 bytes, no header: ... oldest first, unused records all 0xFF."
+   "An area refused on saving is not written". W-207: "31 ... on saving, not 248". */
 enum number board_save(const struct board *board, uint8_t *area, size_t length)
 {
     if (board->cells == 0)
@@ -60,20 +60,29 @@ static enum number judge_area(const uint8_t area[AREA_BYTES], size_t used)
     return DONE;
 }
 
-/* "A load replaces the list", "with everything marked as sent"; "one refused on loading leaves the board as it was" */
-enum number board_load(struct board *board, const uint8_t *area, size_t length)
+static void take_events(struct board *board, const uint8_t area[AREA_BYTES], size_t used)
 {
-    if (board->cells == 0)
-        return NO_BOARD;
-    if (length != AREA_BYTES)
-        return WRONG_AREA;
-    const size_t used = count_used(area);
-    const enum number refused = judge_area(area, used);
-    if (refused != DONE)
-        return refused;
     for (size_t at = 0; at < used; at++)
         board->event[at] = event_of(area + AREA_RECORD * at);
     board->events_noted = used;
     board->events_sent = used;
-    return DONE;
+}
+
+/* "A load replaces the list", "with everything marked as sent"; "one refused on loading leaves the board as it was"
+   W-207: "An old 192-byte area still loads, as the 248 bytes it makes with 14 unused records after it."
+   "31 on loading now means neither 192 nor 248" */
+enum number board_load(struct board *board, const uint8_t *lent, size_t length)
+{
+    uint8_t area[AREA_BYTES];
+    if (board->cells == 0)
+        return NO_BOARD;
+    if (length != OLD_AREA_BYTES && length != AREA_BYTES)
+        return WRONG_AREA;
+    memset(area, 0xFF, AREA_BYTES);
+    memcpy(area, lent, length);
+    const size_t used = count_used(area);
+    const enum number refused = judge_area(area, used);
+    if (refused == DONE)
+        take_events(board, area, used);
+    return refused;
 }

@@ -311,7 +311,8 @@ static void say_offer_or_fetch(struct script *script)
 
 static void say_save(struct script *script)
 {
-    static const int wrong[] = {0, 1, AREA_RECORD, AREA_BYTES - 1, AREA_BYTES + 1, AREA_BYTES + AREA_RECORD, 300, 600};
+    static const int wrong[] = {0, 1, OLD_AREA_BYTES - 1, OLD_AREA_BYTES, OLD_AREA_BYTES, OLD_AREA_BYTES + 1,
+                                AREA_BYTES - 1, AREA_BYTES + 1, 300, 600};
     say(script, "save %d", one_in(script, 5) ? PICK(script, wrong) : AREA_BYTES);
     board_save(&script->board, script->saved, AREA_BYTES);
 }
@@ -356,8 +357,8 @@ static const char *const junk[] = {
     "frame 259 AA 18 7F 1A \x01", "frame AA 18 7F 1A", "frame 0x259 AA 18 7F 1A", "frame 0259 aa 18 7f 1A",
     "offer", "offer A", "offer AAA", "offer AA18 7F", "offer 259 AA", "offers AA", "Offer AA", "offer aa 1D",
     "offer GG", "fetch", "fetch 601", "fetch -0", "fetch 259 AA", "fetch 0600", "fetch 259 ", "fetch x", "fetched 259",
-    "save", "save 601", "save -0", "save 192 192", "save 0192", "save x", "save 0xC0", "saved 192", "Save 192",
-    "load", "load F", "load FFF", "load FFFF", "load GG", "load 192 FF", "loads FF", "Load FF", "load fF Ff",
+    "save", "save 601", "save -0", "save 248 248", "save 0248", "save x", "save 0xF8", "saved 248", "Save 248",
+    "load", "load F", "load FFF", "load FFFF", "load GG", "load 248 FF", "loads FF", "Load FF", "load fF Ff",
     "crc", "crc 1", "crc 001", "crc ZZ", "crc aB Ba", "register", "register 65536", "register -0", "register 50 50",
     "register 0050", "tick 0 250 250 250 0 0",
     "tick 2147483648 250 250 250 0 0 0 1 2 3 4", "tick -2147483649 250 250 250 0 0 0 1 2 3 4",

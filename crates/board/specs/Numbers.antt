@@ -1,5 +1,5 @@
 -- Numbers the caller gets: the table of document 01, a row each, of a call after a history of deeds on a board with those start numbers; and
--- the refusals of W-201 and W-205.
+-- the refusals of W-201, W-205 and W-207.
 -- Assumes nothing.
 use mathlib.Core.Bool.{Bool, true, false, _||_, not, cond}
 use mathlib.Core.List.{List, [], _∷_}
@@ -8,7 +8,7 @@ use lib.Dec.{eqb, ltb}
 use lib.ListN.{length, take, getD}
 use Rattle.laws.specs.History.{any}
 use Rattle.crc.specs.Crc.{crcOf}
-use Rattle.events.specs.Memory.{noArea, recordsIn, parted, strange}
+use Rattle.events.specs.Memory.{noArea, neitherArea, recordsIn, parted, strange}
 use Rattle.receiver.specs.Receiver.{complete}
 use Rattle.readings.specs.Readings.{wrongCells, wrongCurrent, noInternal, wrongPulses}
 use Rattle.settings.specs.declared.Settings.{Settings}
@@ -71,12 +71,12 @@ rows cells perKm h (offer bytes) = (21, not (usableCount cells)) ∷ (6, complet
 -- 7, a fetch with none held, after 1; else the number of the held frame
 rows cells perKm h (fetch room) =
     (21, not (usableCount cells)) ∷ (1, ltb room 259) ∷ (7, not (complete (heldAt h))) ∷ requestRows cells perKm h (heldAt h)
--- 31, area not 192 bytes
+-- 31 on saving: not 248
 rows cells perKm h (save n) = (21, not (usableCount cells)) ∷ (31, noArea n) ∷ []
--- 32, a used record after an unused one; 33, an event number this board never records
+-- 31 on loading: neither 192 nor 248; 32, a used record after an unused one; 33, an event number this board never records
 rows cells perKm h (load area) =
     (21, not (usableCount cells))
-    ∷ (31, noArea (length area))
+    ∷ (31, neitherArea (length area))
     ∷ (32, parted (recordsIn area))
     ∷ (33, any strange (recordsIn area))
     ∷ []

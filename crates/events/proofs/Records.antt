@@ -16,7 +16,7 @@ use Rattle.laws.specs.History.{each, any}
 use Rattle.events.specs.declared.Event.{Event}
 use Rattle.events.specs.declared.Events.{Events}
 use Rattle.events.specs.Events.{capacity, noEvent, latest, keptCount, keptOf, placed}
-use Rattle.events.specs.Memory.{areaLength, noArea, recordOf, eventIn, noRecord, used, savedOf, areaOf, saveNumber, Saves, recordedNumbers, isIn, isRecorded, recordsAt, recordsIn, usedOf, parted, strange, recordsNumber, loadNumber, listOf, eventsIn}
+use Rattle.events.specs.Memory.{areaLength, noArea, neitherArea, recordOf, eventIn, noRecord, used, savedOf, areaOf, saveNumber, Saves, recordedNumbers, isIn, isRecorded, recordsAt, recordsIn, usedOf, parted, strange, recordsNumber, loadNumber, listOf, eventsIn}
 
 -- ---- the records that are saved
 
@@ -264,9 +264,9 @@ module _ {A : Type 0} (z : A) where
 -- ---- what a load gives
 
 module _ (area : List ℕ) where
-  pub numbered : length area ≡ areaLength → loadNumber area ≡ recordsNumber (recordsIn area)
+  pub numbered : neitherArea (length area) ≡ false → loadNumber area ≡ recordsNumber (recordsIn area)
   unfolding loadNumber
-  numbered k = ap (λ (n : ℕ). cond (noArea n) 31 (recordsNumber (recordsIn area))) k
+  numbered k = ap (λ (t : Bool). cond t 31 (recordsNumber (recordsIn area))) k
 
   pub judged : {count : ℕ} {t u : Bool} → count ≡ length (eventsIn area) → t ≡ any used (drop count (recordsIn area)) → u ≡ any strange (recordsIn area)
       → recordsNumber (recordsIn area) ≡ cond t 32 (cond u 33 0)

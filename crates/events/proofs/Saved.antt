@@ -1,21 +1,22 @@
 -- A save followed by a load gives the same list with everything marked as sent, if the kept events have numbers that the board records; and a load
 -- followed by a save gives the area back. Whatever the capacity.
+-- An old area loads as the area it makes with unused records after it, and what was saved into it is loaded; of any capacity from 48 on.
 -- Assumes nothing.
-use mathlib.Core.Path.{_≡_, refl, sym, ap, ap₂, _∙_}
+use mathlib.Core.Path.{_≡_, refl, sym, ap, ap₂, _∙_, subst⁻¹}
 use mathlib.Core.Bool.{Bool, true, false, _&&_, not, cond, false≢true}
-use mathlib.Core.List.{List, [], _∷_, _++_, append-assoc}
+use mathlib.Core.List.{List, [], _∷_, _++_, append-assoc, append-nil}
 use Prim.Native.Nat.{ℕ, zero, suc, _+_, _*_, _-_, _/_, _%_, _≤_, _<_, min}
 use native.Mathlib.Omega.{arith}
 use native.Mathlib.Nat.{zero-add, add-zero, sub-zero, suc-sub-suc}
 use borrow.Author.Tests.{eqb-true}
 use lib.Dec.{eqb}
-use lib.ListN.{length, drop, getD, replicate, length-append, length-replicate, length-take, drop-of-length-le}
+use lib.ListN.{length, drop, getD, replicate, length-append, length-replicate, replicate-append-replicate, length-take, drop-of-length-le}
 use lib.Seq.{drop-cons, drop-at, getD-append-add}
 use Rattle.laws.specs.History.{each, any}
 use Rattle.events.specs.declared.Event.{Event}
 use Rattle.events.specs.declared.Events.{Events}
 use Rattle.events.specs.Events.{capacity, noEvent, latest, keptOf, newOf}
-use Rattle.events.specs.Memory.{areaLength, recordOf, eventIn, noRecord, used, savedOf, areaOf, recordsAt, recordsIn, usedOf, parted, isRecorded, neverRecorded, strange, recordsNumber, loadNumber, listOf, eventsIn, loadOf}
+use Rattle.events.specs.Memory.{areaLength, oldLength, neitherArea, recordOf, eventIn, noRecord, used, savedOf, areaOf, recordsAt, recordsIn, usedOf, parted, isRecorded, neverRecorded, strange, recordsNumber, loadNumber, listOf, eventsIn, loadOf}
 use Rattle.events.proofs.Records.{length-kept, length-saved, length-each, length-in, used-first, numbered}
 
 -- ---- a record and its four bytes
@@ -59,6 +60,49 @@ read-behind p (r ∷ rs) =
 pub records-back : (rs : List Event) → length rs ≡ capacity → recordsIn (each recordOf rs) ≡ rs
 unfolding recordsIn
 records-back rs h = ap (recordsAt (each recordOf rs) 0) (sym h) ∙ read-behind [] rs
+
+-- ---- bytes past the end of an area
+
+past-end : (n i : ℕ) → _≡_ {A = ℕ} (getD (replicate n 0xFF) i 0xFF) 0xFF
+past-end zero i = refl
+past-end (suc n) zero = refl
+past-end (suc n) (suc i) = past-end n i
+
+same-byte : (area : List ℕ) (n i : ℕ) → getD (area ++ replicate n 0xFF) i 0xFF ≡ getD area i 0xFF
+same-byte [] n i = past-end n i
+same-byte (x ∷ area) n zero = refl
+same-byte (x ∷ area) n (suc i) = same-byte area n i
+
+same-records : (area : List ℕ) (n at k : ℕ) → recordsAt (area ++ replicate n 0xFF) at k ≡ recordsAt area at k
+same-records area n at zero = refl
+same-records area n at (suc k) =
+    let byte = same-byte area n in
+    λ i. eventIn (byte at i) (byte (at + 1) i) (byte (at + 2) i) (byte (at + 3) i) ∷ same-records area n (at + 4) k i
+
+-- bytes 0xFF after an area change no record of it
+pub unused-after : (area : List ℕ) (n : ℕ) → recordsIn (area ++ replicate n 0xFF) ≡ recordsIn area
+unfolding recordsIn
+unused-after area n = same-records area n 0 capacity
+
+each-unused : (m : ℕ) → each recordOf (replicate m noRecord) ≡ replicate (4 * m) 0xFF
+each-unused zero = refl
+each-unused (suc m) =
+    let n : suc (suc (suc (suc (4 * m)))) ≡ 4 * suc m = omega arith in
+    ap (λ (l : List ℕ). recordOf noRecord ++ l) (each-unused m) ∙ ap (λ (k : ℕ). replicate {A = ℕ} k 0xFF) n
+
+each-append : (rs ss : List Event) → each recordOf (rs ++ ss) ≡ each recordOf rs ++ each recordOf ss
+each-append [] ss = refl
+each-append (r ∷ rs) ss = ap (λ (l : List ℕ). recordOf r ++ l) (each-append rs ss) ∙ sym (append-assoc (recordOf r) (each recordOf rs) (each recordOf ss))
+
+-- fewer records than places are read as themselves and unused ones
+pub few-back : (rs : List Event) (n : ℕ) → length rs + n ≡ capacity → recordsIn (each recordOf rs) ≡ rs ++ replicate n noRecord
+few-back rs n h =
+    sym (unused-after (each recordOf rs) (4 * n))
+    ∙ ap (λ (l : List ℕ). recordsIn (each recordOf rs ++ l)) (sym (each-unused n))
+    ∙ ap recordsIn (sym (each-append rs (replicate n noRecord)))
+    ∙ records-back (rs ++ replicate n noRecord) (simp (length-append, length-replicate) h)
+
+-- ---- an area and its records
 
 -- an area of bytes
 abbrev pub Bytes : List ℕ → Type 0
@@ -161,30 +205,41 @@ module _ (es : List Event) (few : length es ≤ capacity) where
   unfolding latest
   listed-new = drop-of-length-le (listOf es .list) {i = capacity - min (min capacity (length es)) 0} (simp (length-append, length-replicate) (omega arith))
 
+-- ---- records of known numbers and unused ones behind them, as many as an area has, load as that list
+
+module _ (ks : List Event) (m : ℕ) (few : length ks + m ≤ capacity) (recorded : any neverRecorded ks ≡ false) where
+  abbrev bytes : List ℕ
+  bytes = each recordOf (ks ++ replicate m noRecord)
+
+  records : recordsIn bytes ≡ ks ++ replicate (m + (capacity - (length ks + m))) noRecord
+  records =
+      let n = capacity - (length ks + m) in
+      few-back (ks ++ replicate m noRecord) n (simp (length-append, length-replicate) (omega arith))
+      ∙ append-assoc ks (replicate m noRecord) (replicate n noRecord)
+      ∙ ap (λ (rs : List Event). ks ++ rs) (replicate-append-replicate m n noRecord)
+
+  read : Reads (recordsIn bytes) ks
+  read = subst⁻¹ (λ (rs : List Event). Reads rs ks) records (kept-read (m + (capacity - (length ks + m))) ks recorded)
+
+  read-number : neitherArea (length bytes) ≡ false → loadNumber bytes ≡ 0
+  read-number h = numbered bytes h ∙ ap₂ (λ (t u : Bool). cond t 32 (cond u 33 0)) (read .1) (read .2)
+
+  -- the same list, and nothing is new, whatever list it replaces
+  pub loads : neitherArea (length bytes) ≡ false → (f : Events) → loadOf f bytes ≡ record { number = 0; events = listOf ks }
+  unfolding loadOf
+  loads h f = rw (read-number h, read .0)
+
 -- ---- a save followed by a load
 
 module _ (e : Events) (long : length (e .list) ≡ capacity) (recorded : any neverRecorded (keptOf e) ≡ false) where
-  read : Reads (savedOf e) (keptOf e)
-  read = kept-read (capacity - length (keptOf e)) (keptOf e) recorded
-
-  records : recordsIn (areaOf e) ≡ savedOf e
-  unfolding areaOf
-  records = records-back (savedOf e) (length-saved e long)
-
   pub length-area : length (areaOf e) ≡ areaLength
   unfolding areaOf
   length-area = length-each (savedOf e) ∙ ap (λ (n : ℕ). 4 * n) (length-saved e long)
 
-  pub saved-events : eventsIn (areaOf e) ≡ keptOf e
-  saved-events = ap usedOf records ∙ read .0
-
-  pub saved-number : loadNumber (areaOf e) ≡ 0
-  saved-number = numbered (areaOf e) length-area ∙ ap recordsNumber records ∙ ap₂ (λ (t u : Bool). cond t 32 (cond u 33 0)) (read .1) (read .2)
-
   -- the same list, and nothing is new, whatever list it replaces
   pub save-load : (f : Events) → loadOf f (areaOf e) ≡ record { number = 0; events = listOf (keptOf e) }
-  unfolding loadOf
-  save-load f = rw (saved-number, saved-events)
+  unfolding areaOf
+  save-load f = let n = length-kept e long in loads (keptOf e) (capacity - length (keptOf e)) (omega arith) recorded (ap neitherArea length-area) f
 
   pub same-kept : keptOf (listOf (keptOf e)) ≡ keptOf e
   same-kept = listed-kept (keptOf e) (let n = length-kept e long in omega arith)
@@ -192,7 +247,36 @@ module _ (e : Events) (long : length (e .list) ≡ capacity) (recorded : any nev
   pub none-new : newOf (listOf (keptOf e)) ≡ []
   none-new = listed-new (keptOf e) (let n = length-kept e long in omega arith)
 
+-- ---- an old area
+
+-- it loads as the 248 bytes it makes with 14 unused records after it
+pub old-loads : (f : Events) (old : List ℕ) → length old ≡ oldLength → loadOf f old ≡ loadOf f (old ++ replicate (areaLength - oldLength) 0xFF)
+unfolding loadOf
+old-loads f old h =
+    let whole = old ++ replicate (areaLength - oldLength) 0xFF in
+    let same = sym (unused-after old (areaLength - oldLength)) in
+    let long : length whole ≡ areaLength = simp (length-append, length-replicate) (omega arith) in
+    let number : loadNumber old ≡ loadNumber whole =
+    numbered old (ap neitherArea h) ∙ ap recordsNumber same ∙ sym (numbered whole (ap neitherArea long)) in
+    λ i. record { number = number i; events = cond (eqb (number i) 0) (listOf (usedOf (same i))) f }
+
+-- what the board of 48 saved of at most 48 events loads as these
+pub old-save-load : (es : List Event) → length es ≤ 48 → any neverRecorded es ≡ false
+    → (f : Events) → loadOf f (each recordOf (es ++ replicate (48 - length es) noRecord)) ≡ record { number = 0; events = listOf es }
+old-save-load es few recorded f =
+    let m = 48 - length es in
+    let many : length (es ++ replicate m noRecord) ≡ 48 = simp (length-append, length-replicate) (omega arith) in
+    let long = length-each (es ++ replicate m noRecord) ∙ ap (λ (n : ℕ). 4 * n) many in
+    loads es m (omega arith) recorded (ap neitherArea long) f
+
 -- ---- a load followed by a save
+
+-- the area with unused records after it; one of all its bytes has none
+abbrev pub wholeOf : List ℕ → List ℕ
+wholeOf area = area ++ replicate (areaLength - length area) 0xFF
+
+pub whole-same : (area : List ℕ) → length area ≡ areaLength → wholeOf area ≡ area
+whole-same area h = ap (λ (n : ℕ). area ++ replicate (areaLength - n) 0xFF) h ∙ append-nil area
 
 -- there are no more of them than records
 pub few-events : (area : List ℕ) → length (eventsIn area) ≤ capacity
@@ -203,16 +287,22 @@ few-events area =
     omega arith
 
 module _ (area : List ℕ) (done : loadNumber area ≡ 0) where
-  accepted : (length area ≡ areaLength) × (parted (recordsIn area) ≡ false)
+  accepted : (length area ≤ areaLength) × (parted (recordsIn area) ≡ false)
   unfolding loadNumber
-  accepted = go (eqb (length area) areaLength) refl (parted (recordsIn area)) done
+  accepted = go (eqb (length area) areaLength) refl (eqb (length area) oldLength) refl (parted (recordsIn area)) done
     where
-      go : (t : Bool) → eqb (length area) areaLength ≡ t → (u : Bool) → _≡_ {A = ℕ} (cond (not t) 31 (cond u 32 (cond (any strange (recordsIn area)) 33 0))) 0 → (length area ≡ areaLength) × (u ≡ false)
-      go true q true e = let z : _≡_ {A = ℕ} 32 0 = e in absurd (omega arith)
-      go true q false e = (eqb-true (length area) areaLength q, refl)
-      go false q u e = let z : _≡_ {A = ℕ} 31 0 = e in absurd (omega arith)
+      go : (s : Bool) → eqb (length area) areaLength ≡ s → (t : Bool) → eqb (length area) oldLength ≡ t → (u : Bool)
+          → _≡_ {A = ℕ} (cond (not s && not t) 31 (cond u 32 (cond (any strange (recordsIn area)) 33 0))) 0 → (length area ≤ areaLength) × (u ≡ false)
+      go true p t q true e = let z : _≡_ {A = ℕ} 32 0 = e in absurd (omega arith)
+      go true p t q false e = let k = eqb-true (length area) areaLength p in (omega arith, refl)
+      go false p true q true e = let z : _≡_ {A = ℕ} 32 0 = e in absurd (omega arith)
+      go false p true q false e = let k = eqb-true (length area) oldLength q in (omega arith, refl)
+      go false p false q u e = let z : _≡_ {A = ℕ} 31 0 = e in absurd (omega arith)
 
-  pub load-save : Bytes area → (f : Events) → areaOf (loadOf f area .events) ≡ area
+  long-whole : length (wholeOf area) ≡ areaLength
+  long-whole = let n = accepted .0 in simp (length-append, length-replicate) (omega arith)
+
+  pub load-save : Bytes area → (f : Events) → areaOf (loadOf f area .events) ≡ wholeOf area
   unfolding areaOf loadOf
   load-save b f =
       let es = eventsIn area in
@@ -220,4 +310,5 @@ module _ (area : List ℕ) (done : loadNumber area ≡ 0) where
       ∙ ap (λ (ks : List Event). each recordOf (ks ++ replicate (capacity - length ks) noRecord)) (listed-kept es (few-events area))
       ∙ ap (λ (n : ℕ). each recordOf (es ++ replicate (n - length es) noRecord)) (sym (length-in area))
       ∙ ap (each recordOf) (unused-rest (recordsIn area) (accepted .1))
-      ∙ area-back area b (accepted .0)
+      ∙ ap (each recordOf) (sym (unused-after area (areaLength - length area)))
+      ∙ area-back (wholeOf area) (λ i. subst⁻¹ (λ (n : ℕ). n < 256) (same-byte area (areaLength - length area) i) (b i)) long-whole

@@ -1,4 +1,4 @@
--- The event list keeps the latest 48, oldest first, and knows which of them an earlier 0x11 has not sent.
+-- The event list keeps the latest 62 (W-207 of document 02), oldest first, and knows which of them an earlier 0x11 has not sent.
 -- Assumes nothing.
 use mathlib.Core.Bool.{cond}
 use mathlib.Core.List.{List}
@@ -9,9 +9,9 @@ use Rattle.laws.specs.Fold.{shifted}
 use Rattle.events.specs.declared.Event.{Event}
 use Rattle.events.specs.declared.Events.{Events}
 
--- the event list keeps the latest 48
+-- keep 62
 abbrev pub capacity : ℕ
-capacity = 48
+capacity = 62
 
 -- 3 time bytes and the event number, as one number of 32 bits; event time is the seconds modulo 2^24
 abbrev pub eventAt : ℕ → ℕ → Event

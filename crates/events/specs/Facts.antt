@@ -1,4 +1,4 @@
--- 49 events keep the latest 48; 0x11's mark; event time past 2^24 seconds; saved areas, and areas damaged in each way: computed.
+-- 63 events keep the latest 62; 0x11's mark; event time past 2^24 seconds; saved areas, and areas damaged in each way: computed.
 -- Assumes nothing.
 use mathlib.Core.Path.{_≡_, refl}
 use mathlib.Core.List.{List, [], _∷_, _++_}
@@ -7,7 +7,7 @@ use native.Mathlib.Omega.{arith}
 use lib.ListN.{length, take, drop, replicate}
 use Rattle.laws.specs.Fold.{shifted}
 use Rattle.events.specs.declared.Events.{Events}
-use Rattle.events.specs.Memory.{areaLength, areaOf, isRecorded, recordsIn, usedOf, parted, loadNumber, eventsIn, loadOf}
+use Rattle.events.specs.Memory.{areaLength, areaOf, saveNumber, isRecorded, recordsIn, usedOf, parted, loadNumber, eventsIn, loadOf}
 use Rattle.events.specs.Events.{capacity, eventAt, timeOf, numberOf, latest, keptOf, newOf, noEvents, addOf, sentOf, placed}
 
 -- n events, the k-th with the number k and k seconds
@@ -15,10 +15,14 @@ events : ℕ → Events
 events zero = noEvents
 events (suc n) = addOf (events n) (suc n) (suc n)
 
--- 49 events: 48 are kept, the first is the second of all
-forty-nine : (length (keptOf (events 49)) ≡ 48) × (placed (keptOf (events 49)) 0 ≡ eventAt 2 2) × (placed (keptOf (events 49)) 47 ≡ eventAt 49 49)
+-- 62 events are all kept; of 63 the first is gone
+sixty-two : (length (keptOf (events 62)) ≡ 62) × (placed (keptOf (events 62)) 0 ≡ eventAt 1 1) × (placed (keptOf (events 62)) 61 ≡ eventAt 62 62)
 unfolding events noEvents addOf latest shifted
-forty-nine = (refl, refl, refl)
+sixty-two = (refl, refl, refl)
+
+sixty-three : (length (keptOf (events 63)) ≡ 62) × (placed (keptOf (events 63)) 0 ≡ eventAt 2 2) × (placed (keptOf (events 63)) 61 ≡ eventAt 63 63)
+unfolding events noEvents addOf latest shifted
+sixty-three = (refl, refl, refl)
 
 -- sent, then two more: five kept, two new
 marked : (length (keptOf (addOf (addOf (sentOf (events 3)) 4 4) 5 5)) ≡ 5) × (newOf (addOf (addOf (sentOf (events 3)) 4 4) 5 5) ≡ eventAt 4 4 ∷ eventAt 5 5 ∷ [])
@@ -59,10 +63,23 @@ loaded-two : loadOf noEvents area ≡ record { number = 0; events = sentOf (addO
 unfolding area areaOf noEvents addOf sentOf latest shifted recordsIn usedOf parted isRecorded loadNumber loadOf
 loaded-two = refl
 
--- 31: of no byte, one too few, one too many
-wrong-length : (loadNumber [] ≡ 31) × (loadNumber (replicate (areaLength - 1) 0xFF) ≡ 31) × (loadNumber (replicate (areaLength + 1) 0xFF) ≡ 31) × (loadNumber (replicate areaLength 0xFF) ≡ 0)
+-- 31: of no byte, one too few, one too many; an old area too
+wrong-length : (loadNumber [] ≡ 31) × (loadNumber (replicate 247 0xFF) ≡ 31) × (loadNumber (replicate 249 0xFF) ≡ 31) × (loadNumber (replicate 248 0xFF) ≡ 0)
+    × (loadNumber (replicate 191 0xFF) ≡ 31) × (loadNumber (replicate 193 0xFF) ≡ 31) × (loadNumber (replicate 192 0xFF) ≡ 0)
 unfolding recordsIn parted isRecorded loadNumber
-wrong-length = (refl, refl, refl, refl)
+wrong-length = (refl, refl, refl, refl, refl, refl, refl)
+
+-- an area is saved into 248 bytes, and into no old area
+saved-length : (saveNumber 248 ≡ 0) × (saveNumber 192 ≡ 31)
+saved-length = (refl, refl)
+
+-- an old area: its two events, and the unused records after them
+old-area : List ℕ
+old-area = 5 ∷ 0 ∷ 0 ∷ 0x64 ∷ 6 ∷ 0 ∷ 0 ∷ 0x02 ∷ replicate 184 0xFF
+
+old-two : loadOf (events 3) old-area ≡ record { number = 0; events = sentOf (addOf (addOf noEvents 5 0x64) 6 0x02) }
+unfolding old-area events noEvents addOf sentOf shifted recordsIn usedOf parted isRecorded loadNumber loadOf
+old-two = refl
 
 -- an area of these bytes, and 0xFF behind them
 filled : List ℕ → List ℕ

@@ -1,4 +1,4 @@
--- Events in the pack's memory (W-205 of document 02): the list in a lent area of 48 records of 4 bytes, no header: the three time bytes and the
+-- Events in the pack's memory (W-205 and W-207 of document 02): the list in a lent area of records of 4 bytes, no header: the three time bytes and the
 -- event number, oldest first, unused records all 0xFF.
 -- Assumes nothing.
 use mathlib.Core.Bool.{Bool, false, _&&_, _||_, not, cond}
@@ -13,13 +13,21 @@ use Rattle.events.specs.declared.Events.{Events}
 use Rattle.events.specs.declared.Loaded.{Loaded}
 use Rattle.events.specs.Events.{capacity, timeOf, numberOf, noEvent, keptOf}
 
--- 48 records of 4 bytes
+-- the saved area becomes 248 bytes: a record of 4 bytes for each
 abbrev pub areaLength : ℕ
 areaLength = 4 * capacity
 
--- 31, area not 192 bytes
+-- an old 192-byte area: 48 records of 4 bytes
+abbrev pub oldLength : ℕ
+oldLength = 192
+
+-- 31 on saving: not 248
 abbrev pub noArea : ℕ → Bool
 noArea n = not (eqb n areaLength)
+
+-- 31 on loading: neither 192 nor 248
+abbrev pub neitherArea : ℕ → Bool
+neitherArea n = noArea n && not (eqb n oldLength)
 
 -- a record: the three time bytes, the low byte first, and the event number
 abbrev pub recordOf : Event → List ℕ
@@ -55,7 +63,8 @@ pub record Saves (e : Events) (before : List ℕ) (number : ℕ) (after : List �
 
 -- ---- loading
 
--- n records from a place on, and all of an area; a byte past its end reads 0xFF
+-- n records from a place on, and all of an area; a byte past its end reads 0xFF, so an old area is the 248 bytes it makes with 14 unused records
+-- after it
 abbrev pub recordsAt : List ℕ → ℕ → ℕ → List Event
 recordsAt area at zero = []
 recordsAt area at (suc n) =
@@ -97,7 +106,7 @@ abbrev pub recordsNumber : List Event → ℕ
 recordsNumber es = cond (parted es) 32 (cond (any strange es) 33 0)
 
 unfoldable pub loadNumber : List ℕ → ℕ
-loadNumber area = cond (noArea (length area)) 31 (recordsNumber (recordsIn area))
+loadNumber area = cond (neitherArea (length area)) 31 (recordsNumber (recordsIn area))
 
 -- those events in the last places, and everything marked as sent
 abbrev pub listOf : List Event → Events

@@ -9,7 +9,7 @@ ghost use Rattle.events.specs.Events.{capacity, eventAt, timeOf, numberO
 ghost use Rattle.pairs.specs.Pairs.{halfAt};
 
 // How many events are kept.
-pub const CAPACITY: usize = 48;
+pub const CAPACITY: usize = 62;
 
 // How many bytes the area has that they are saved into: a record of four for each.
 pub const AREA: usize = 4 * CAPACITY;

@@ -12,6 +12,9 @@ use crate::Event;
 use crate::Events;
 use crate::Loaded;
 
+// How many bytes the area had when 48 events were kept; such an area is still loaded.
+const OLD_AREA: usize = 192;
+
 impl Events {
     // Every record of the area; 31, and nothing written, where it is none. Nothing is marked.
     pub fn save(self, area: &mut [u8]) -> u8
@@ -121,7 +124,7 @@ fn record_in(area: &[u8], i: usize) -> Event
     }
 }
 
-// Past the end 0xFF.
+// Past the end 0xFF: an old area has unused records after its own.
 fn byte_at(area: &[u8], i: usize) -> u8
     ensures { λ r. ⌜ r ≡ getD (now (area .entry)) i 0xFF ⌝ }
 {
@@ -175,7 +178,7 @@ fn has_strange(area: &[u8]) -> bool
 fn load_number(area: &[u8]) -> u8
     ensures { λ r. ⌜ r ≡ loadNumber (now (area .entry)) ⌝ }
 {
-    if area.len() != AREA {
+    if (area.len() != AREA) & (area.len() != OLD_AREA) {
         return 31;
     }
     if is_used_from(area, used_count(area)) {

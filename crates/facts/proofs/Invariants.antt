@@ -2,7 +2,7 @@
 -- ends changes a number (the one of the summed pulses, nothing that is shown). Why: the board is the one that its deeds make
 -- (`account`), and a deed that is a tick was judged good; so each bound is a law of lists over the accepted ticks. Numbers from outside
 -- have their machine types, which lists do not carry: where that is needed, `Typed` says it of cells and bytes, and `km-per-hour` of the
--- pulses per km. Ends that the paper itself sets are met, and are not meant here: 48 events, the 65,535 of a count, the 2^32 - 1 of
+-- pulses per km. Ends that the paper itself sets are met, and are not meant here: 62 events, the 65,535 of a count, the 2^32 - 1 of
 -- clock and distance, the byte of whole degrees. Assumes nothing.
 use mathlib.Core.Path.{_≡_, refl, sym, ap, _∙_, subst, subst⁻¹}
 use mathlib.Core.Bool.{Bool, true, false, _&&_, _||_, cond, and-false, false≢true}

@@ -1,4 +1,4 @@
--- W-205: the event numbers that a load takes are exactly those that ticks record, so the kept events of every board reached from a start have such
+-- W-205 and W-207: the event numbers that a load takes are exactly those that ticks record, so the kept events of every board reached from a start have such
 -- numbers; a save followed by a load gives the same list with everything marked as sent, and a load followed by a save gives the area back.
 -- Assumes nothing.
 use mathlib.Core.Path.{_≡_, refl, sym, ap, _∙_, subst⁻¹}
@@ -8,16 +8,17 @@ use Prim.Native.Nat.{ℕ, zero, suc, _+_, _-_, _≤_, min}
 use native.Mathlib.Omega.{arith}
 use lib.Dec.{eqb}
 use lib.IntN.{pos, negsuc}
-use lib.ListN.{length, take, getD, replicate, length-take, length-reverse}
+use lib.ListN.{length, take, drop, getD, replicate, length-take, length-reverse}
+use Rattle.crc.specs.Crc.{crcOf}
 use Rattle.laws.specs.History.{since, from, each, any, latest}
 use Rattle.laws.proofs.Lists.{latest-few, length-latest}
 use Rattle.events.specs.declared.Event.{Event}
 use Rattle.events.specs.declared.Events.{Events}
 use Rattle.events.specs.declared.Loaded.{Loaded}
 use Rattle.events.specs.Events.{capacity, eventAt, numberOf, noEvent, keptOf, sentOf}
-use Rattle.events.specs.Memory.{areaLength, recordedNumbers, isIn, isRecorded, neverRecorded, used, strange, usedOf, parted, recordsIn, areaOf, loadNumber, listOf, eventsIn}
+use Rattle.events.specs.Memory.{areaLength, oldLength, neitherArea, recordedNumbers, isIn, isRecorded, neverRecorded, used, strange, usedOf, parted, recordsIn, areaOf, loadNumber, listOf, eventsIn}
 use Rattle.events.specs.Memory as memory
-use Rattle.events.proofs.Saved.{Bytes, save-load, load-save}
+use Rattle.events.proofs.Saved.{Bytes, wholeOf, whole-same, save-load, load-save, old-loads}
 use Rattle.guard.specs.declared.Conditions.{Conditions}
 use Rattle.guard.specs.declared.Condition.{Condition}
 use Rattle.guard.specs.declared.Condition.the-variants.{UV, OV, OT, DOC, COC, ROC, LT}
@@ -27,7 +28,7 @@ use Rattle.pack.specs.Pack.{usableCount}
 use Rattle.readings.specs.declared.Readings.{Readings}
 use Rattle.requests.specs.declared.Request.{Request}
 use Rattle.requests.specs.declared.Request.the-variants as request
-use Rattle.requests.specs.Requests.{requestOf}
+use Rattle.requests.specs.Requests.{le16At, requestOf}
 use Rattle.board.specs.declared.Board.{Board}
 use Rattle.board.specs.State.{usable, withEvents}
 use Rattle.board.specs.Start.{startBoard}
@@ -42,7 +43,7 @@ use Rattle.board.proofs.Demands.Demand2.{account}
 use Rattle.board.proofs.Opened.{opened}
 use Rattle.facts.proofs.Calls.{flow, events}
 use Rattle.facts.proofs.Invariants.{All, all-append, all-reversed}
-use Rattle.facts.proofs.Ticks.{fresh, after, storm, still, recorded}
+use Rattle.facts.proofs.Ticks.{fresh, after, storm, still, alternately, recorded}
 
 -- ---- each number in the list is recorded by a tick: all of them in one history, computed
 
@@ -143,13 +144,13 @@ used-known (r ∷ rs) h = go (used r) (neverRecorded r) refl h (used-known rs)
 
 area-known : (area : List ℕ) → eqb (loadNumber area) 0 ≡ true → All Known (eventsIn area)
 unfolding loadNumber
-area-known area = go (eqb (length area) areaLength) (parted (recordsIn area)) (any strange (recordsIn area)) refl
+area-known area = go (neitherArea (length area)) (parted (recordsIn area)) (any strange (recordsIn area)) refl
   where
-    go : (t u v : Bool) → any strange (recordsIn area) ≡ v → eqb (cond (not t) 31 (cond u 32 (cond v 33 0))) 0 ≡ true → All Known (eventsIn area)
-    go true true v e h = absurd (false≢true h)
-    go true false true e h = absurd (false≢true h)
-    go true false false e h = used-known (recordsIn area) e
-    go false u v e h = absurd (false≢true h)
+    go : (t u v : Bool) → any strange (recordsIn area) ≡ v → eqb (cond t 31 (cond u 32 (cond v 33 0))) 0 ≡ true → All Known (eventsIn area)
+    go true u v e h = absurd (false≢true h)
+    go false true v e h = absurd (false≢true h)
+    go false false true e h = absurd (false≢true h)
+    go false false false e h = used-known (recordsIn area) e
 
 abbrev KeptKnown : List Deed → Type 0
 KeptKnown h = All Known (keptSince h)
@@ -271,17 +272,29 @@ module _ (cells perKm : ℕ) (cs : List Call) (some : usableCount cells ≡ true
           subst⁻¹ Loads (account cells perKm cs)
           (rw some (ap (λ (l : Loaded). withEvents made (l .events)) (back (made .hire .events))), rw some (ap (λ (l : Loaded). l .number) (back (made .hire .events))))
 
--- ---- a load followed by a save gives the area back, of any usable board
+-- ---- a load followed by a save gives the area back, an old one with unused records after it, of any usable board
 
 area-bytes : (area : List ℕ) → All (λ byte. byte ≤ 255) area → Bytes area
 area-bytes [] p i = omega arith
 area-bytes (byte ∷ area) p zero = let most = p .0 in omega arith
 area-bytes (byte ∷ area) p (suc i) = area-bytes area (p .1) i
 
-pub load-then-save : (b : Board) (area : List ℕ) → usable b ≡ true → All (λ byte. byte ≤ 255) area → loadNumber area ≡ 0
-    → step (step b (load area) .0) (save areaLength) .1 .buffer ≡ area
+pub load-then-save-whole : (b : Board) (area : List ℕ) → usable b ≡ true → All (λ byte. byte ≤ 255) area → loadNumber area ≡ 0
+    → step (step b (load area) .0) (save areaLength) .1 .buffer ≡ wholeOf area
 unfolding step saveNumber loadOf
-load-then-save b area some bytes done = rw (some, some) (load-save area done (area-bytes area bytes) (b .hire .events))
+load-then-save-whole b area some bytes done = rw (some, some) (load-save area done (area-bytes area bytes) (b .hire .events))
+
+pub load-then-save : (b : Board) (area : List ℕ) → usable b ≡ true → All (λ byte. byte ≤ 255) area → loadNumber area ≡ 0 → length area ≡ areaLength
+    → step (step b (load area) .0) (save areaLength) .1 .buffer ≡ area
+load-then-save b area some bytes done long = load-then-save-whole b area some bytes done ∙ whole-same area long
+
+-- ---- an old area loads as the area it makes with unused records after it, whatever the board
+
+pub old-load : (b : Board) (old : List ℕ) → length old ≡ oldLength → loadOf b old ≡ loadOf b (old ++ replicate (areaLength - oldLength) 0xFF)
+unfolding loadOf memory.loadOf
+old-load b old h =
+    let e = old-loads (b .hire .events) old h in
+    λ i. record { number = cond (usable b) (e i .number) 21; board = cond (usable b) (withEvents b (e i .events)) b }
 
 -- ---- a load changes the events alone; a save changes nothing
 
@@ -340,6 +353,40 @@ pub refused-loads :
     ≡ (0, 0) ∷ (31, 0) ∷ (31, 0) ∷ (32, 0) ∷ (33, 0) ∷ (0, 8) ∷ []
 unfolding opened
 refused-loads = refl
+
+-- W-207: an old area loads as its events, all sent; a save into one is refused, and so is a load of another length
+pub old-area :
+    told (answers 4 (load (take oldLength two) ∷ new-events ∷ events ∷ save oldLength ∷ load (take 191 two) ∷ load (take 193 two) ∷ events ∷ []))
+    ≡ (0, 0) ∷ (0, 4) ∷ (0, 12) ∷ (31, 0) ∷ (31, 0) ∷ (31, 0) ∷ (0, 12) ∷ []
+unfolding opened
+old-area = refl
+
+-- ---- W-207: 62 events are a reply payload of 252, in a frame of 257 bytes: its number, its first bytes up to the first event, whether the CRC of
+-- 255 bytes stands behind them, and what is behind the frame in a buffer of 259
+
+abbrev framed : Seen → ℕ × List ℕ × Bool × List ℕ
+framed a = (a .number, take 11 (a .buffer), eqb (crcOf (take 255 (a .buffer))) (le16At (a .buffer) 255), drop 257 (a .buffer))
+
+-- the charger comes and goes for n ticks, then all are sent, and the new ones
+abbrev full : ℕ → List (ℕ × List ℕ × Bool × List ℕ)
+full n = map framed (drop n (answers 4 (alternately n (flow (pos 0) 0 true) (flow (pos 0) 0 false) ++ (events ∷ new-events ∷ []))))
+
+-- 62 are kept, the first that was recorded at the head; of 63 the first is gone
+pub sixty-two :
+    full 62
+    ≡ (0, (0xAA ∷ 0x12 ∷ 252 ∷ 6 ∷ 0 ∷ 0 ∷ 0 ∷ 0 ∷ 0 ∷ 0 ∷ 0x64 ∷ []), true, (0 ∷ 0 ∷ []))
+    ∷ (0, (0xAA ∷ 0x11 ∷ 252 ∷ 6 ∷ 0 ∷ 0 ∷ 0 ∷ 0 ∷ 0 ∷ 0 ∷ 0x64 ∷ []), true, (0 ∷ 0 ∷ []))
+    ∷ []
+unfolding opened alternately
+sixty-two = refl
+
+pub sixty-three :
+    full 63
+    ≡ (0, (0xAA ∷ 0x12 ∷ 252 ∷ 6 ∷ 0 ∷ 0 ∷ 0 ∷ 0 ∷ 0 ∷ 0 ∷ 0x65 ∷ []), true, (0 ∷ 0 ∷ []))
+    ∷ (0, (0xAA ∷ 0x11 ∷ 252 ∷ 6 ∷ 0 ∷ 0 ∷ 0 ∷ 0 ∷ 0 ∷ 0 ∷ 0x65 ∷ []), true, (0 ∷ 0 ∷ []))
+    ∷ []
+unfolding opened alternately
+sixty-three = refl
 
 -- 21 before all others
 pub no-board : map {B = ℕ × List ℕ} (λ a. (a .number, a .buffer)) (answers 3 (save areaLength ∷ save 0 ∷ load two ∷ load [] ∷ [])) ≡ replicate 4 (21, [])

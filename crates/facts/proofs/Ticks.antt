@@ -77,7 +77,7 @@ unfolding reading
 storm current charger = (29000 ∷ 42000 ∷ 37000 ∷ 37000 ∷ [], reading current (pos 600) (pos 0) 0 charger)
 
 -- n of them, two in turn
-pub alternately : {A : Type 0} → ℕ → A → A → List A
+unfoldable pub alternately : {A : Type 0} → ℕ → A → A → List A
 alternately zero x y = []
 alternately (suc n) x y = x ∷ alternately n y x
 
@@ -145,12 +145,12 @@ pub in-order :
 unfolding recorded fresh after storm
 in-order = (refl, refl, refl)
 
--- the event list keeps the latest 48: of 49, the first is gone
-pub the-latest-48 :
-    (recorded (after fresh (alternately 48 (plugged true) (plugged false))) ≡ alternately 48 0x64 0x65)
-    × (recorded (after fresh (alternately 49 (plugged true) (plugged false))) ≡ alternately 48 0x65 0x64)
+-- the event list keeps the latest 62: of 63, the first is gone
+pub the-latest-62 :
+    (recorded (after fresh (alternately 62 (plugged true) (plugged false))) ≡ alternately 62 0x64 0x65)
+    × (recorded (after fresh (alternately 63 (plugged true) (plugged false))) ≡ alternately 62 0x65 0x64)
 unfolding recorded fresh after alternately plugged
-the-latest-48 = (refl, refl)
+the-latest-62 = (refl, refl)
 
 -- 107 DOC latchings (not counting a condition at each tick it holds): three ticks of DOC are one, and three more after its
 -- recovery another

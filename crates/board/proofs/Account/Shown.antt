@@ -35,7 +35,7 @@ use Rattle.board.specs.Account.{Deed, took, wrote, cleared, forgot, sent
 use Rattle.board.proofs.Account.Settings.{Fits, ranges}
 use Rattle.board.proofs.Demands.Demand2.{account}
 
--- ---- events: the latest 48 of those loaded and recorded since they were forgotten; of these, the ones recorded since the last 0x11 or load; oldest
+-- ---- events: the latest 62 of those loaded and recorded since they were forgotten; of these, the ones recorded since the last 0x11 or load; oldest
 -- first
 
 pub kept-shown : (h : List Deed) → keptOf (eventsAt h) ≡ reverse (take capacity (keptSince h))

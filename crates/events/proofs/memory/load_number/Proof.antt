@@ -1,6 +1,5 @@
 -- The tests in their order. Assumes nothing.
 use mathlib.Core.Path.{refl, sym, _∙_}
-use borrow.Author.Tests.{ne-eqb}
 use Rattle.events.specs.Memory.{loadNumber}
 use Rattle.events.proofs.Records.{numbered, judged}
 use borrow.Author.Needs.{needs}
@@ -9,7 +8,7 @@ use Rattle.events.proofs.memory.load_number.Tie as tie
 
 returns : tie.Need-returns
 unfolding loadNumber
-returns c = rw (ne-eqb _ _ (c .if1 .taken))
+returns c = rw (c .if1 .taken)
 
 used-count-requires : tie.Need-used-count-requires
 used-count-requires c κs = search needs
