@@ -1,6 +1,7 @@
--- The program's loop at the end of a serial line loses no byte and writes exactly the replies: for any reads in a row, what it lends to be
--- written is, one after the other, `frame`'s own replies to the frames of the whole stream. Why: its turns are a cutting of the stream (RawLine),
--- a turn on a board that holds no frame takes a byte at least, and the bytes told to be a reply are the reply (crate `port`, Exact).
+-- The loop at the end of a serial line, as crate `port` defines it, loses no byte and says exactly the replies: from a usable board to which
+-- nothing was offered yet, for any reads in a row, its replies are, one after the other, `frame`'s own to the frames of the whole stream. Why: its
+-- turns are a cutting of the stream (RawLine), a turn on a board that holds no frame takes a byte at least, and the bytes told to be a reply are the
+-- reply (`port`, Exact). What the code lends to be written no contract ties to it: docs/PROMISES.md.
 -- Assumes nothing.
 use mathlib.Core.Path.{_≡_, refl, sym, ap, ap₂, _∙_, subst}
 use mathlib.Core.Bool.{Bool, true, false, cond}
@@ -30,7 +31,7 @@ use Rattle.facts.proofs.RawLine.{Reply, answer, Ran, replied, isReply, 
 
 -- ---- what is stated
 
--- reads in a row: all that is lent to be written, and the board after them
+-- reads in a row: all that is said, and the board after them
 abbrev pub written : Board → List (List ℕ) → List ℕ
 written b [] = []
 written b (bytes ∷ more) = flatten (servedOf b bytes .replies) ++ written (servedOf b bytes .board) more

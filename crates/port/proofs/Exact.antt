@@ -66,59 +66,55 @@ record Asks (pl : ℕ) (e : Expected) : Type 0 where
 record Reads (pl : ℕ) (q : Request) : Type 0 where
   reads : reads q pl ≡ true
 
-arm : (t : Bool) {x y : Expected} {pl : ℕ} → Asks pl x → Asks pl y → Asks pl (cond t x y)
-arm true p q = p
-arm false p q = q
+either : {A : Type 0} (P : A → Type 0) (t : Bool) {x y : A} → P x → P y → P (cond t x y)
+either P true p q = p
+either P false p q = q
 
 expected : (c third seventh pl : ℕ) → Asks pl (expectedOf c third seventh)
 unfolding expectedOf asks fits port.lengthBy
 expected c third seventh pl =
-    arm (eqb c 0x02) (record { asks = refl })
-    (arm (eqb c 0x03) (record { asks = refl })
-    (arm (eqb c 0x07) (record { asks = refl })
-    (arm (eqb c 0x09) (record { asks = refl })
-    (arm (eqb c 0x0B) (record { asks = refl })
-    (arm (eqb c 0x0D) (record { asks = refl })
-    (arm (eqb c 0x10) (record { asks = refl })
-    (arm (eqb c 0x11) (record { asks = refl })
-    (arm (eqb c 0x12) (record { asks = refl })
-    (arm (eqb c 0x14) (record { asks = refl })
-    (arm (eqb c 0x15) (record { asks = refl })
-    (arm (eqb c 0x16) (record { asks = refl })
-    (arm (eqb c 0x17) (record { asks = refl })
-    (arm (eqb c 0x18) (record { asks = refl })
-    (arm (eqb c 0x19) (record { asks = refl })
-    (arm (eqb c 0x1B) (record { asks = refl })
-    (arm (eqb c 0x1C) (record { asks = refl })
-    (arm (eqb c 0x1D) (record { asks = refl })
+    either (Asks pl) (eqb c 0x02) (record { asks = refl })
+    (either (Asks pl) (eqb c 0x03) (record { asks = refl })
+    (either (Asks pl) (eqb c 0x07) (record { asks = refl })
+    (either (Asks pl) (eqb c 0x09) (record { asks = refl })
+    (either (Asks pl) (eqb c 0x0B) (record { asks = refl })
+    (either (Asks pl) (eqb c 0x0D) (record { asks = refl })
+    (either (Asks pl) (eqb c 0x10) (record { asks = refl })
+    (either (Asks pl) (eqb c 0x11) (record { asks = refl })
+    (either (Asks pl) (eqb c 0x12) (record { asks = refl })
+    (either (Asks pl) (eqb c 0x14) (record { asks = refl })
+    (either (Asks pl) (eqb c 0x15) (record { asks = refl })
+    (either (Asks pl) (eqb c 0x16) (record { asks = refl })
+    (either (Asks pl) (eqb c 0x17) (record { asks = refl })
+    (either (Asks pl) (eqb c 0x18) (record { asks = refl })
+    (either (Asks pl) (eqb c 0x19) (record { asks = refl })
+    (either (Asks pl) (eqb c 0x1B) (record { asks = refl })
+    (either (Asks pl) (eqb c 0x1C) (record { asks = refl })
+    (either (Asks pl) (eqb c 0x1D) (record { asks = refl })
     (record { asks = refl }))))))))))))))))))
-
-either : (t : Bool) {x y : Request} {pl : ℕ} → Reads pl x → Reads pl y → Reads pl (cond t x y)
-either true p q = p
-either false p q = q
 
 fields : (c : ℕ) (s : List ℕ) (pl : ℕ) (k : Command) → asks k pl ≡ true → Reads pl (fieldsOf k c s)
 unfolding reads fits asks fieldsOf clearOf blockOf listOf writeOf settingsOf port.lengthBy
-fields c s pl Clear e = either (eqb (getD s 2 0) 1) (record { reads = refl }) (either (eqb (getD s 2 0) 2) (record { reads = refl }) (record { reads = refl }))
+fields c s pl Clear e = either (Reads pl) (eqb (getD s 2 0) 1) (record { reads = refl }) (either (Reads pl) (eqb (getD s 2 0) 2) (record { reads = refl }) (record { reads = refl }))
 fields c s pl Block e =
-    either (eqb (getD s 4 0) 0 && between 1 127 (getD s 5 0) && inOneRange (be16At s 2) (getD s 5 0)) (record { reads = eq-eqb (5 + pl) (5 + pl) refl }) (record { reads = refl })
+    either (Reads pl) (eqb (getD s 4 0) 0 && between 1 127 (getD s 5 0) && inOneRange (be16At s 2) (getD s 5 0)) (record { reads = eq-eqb (5 + pl) (5 + pl) refl }) (record { reads = refl })
 fields c s pl QuickBlock e =
-    either (eqb 0 0 && between 1 127 (getD s 2 0) && inOneRange (le16At s 3) (getD s 2 0)) (record { reads = eq-eqb (5 + pl) (5 + pl) refl }) (record { reads = refl })
+    either (Reads pl) (eqb 0 0 && between 1 127 (getD s 2 0) && inOneRange (le16At s 3) (getD s 2 0)) (record { reads = eq-eqb (5 + pl) (5 + pl) refl }) (record { reads = refl })
 fields c s pl AskList e =
-    either (eqb (getD s 2 0) (2 * (getD s 2 0 / 2)) && between 1 63 (getD s 2 0 / 2) && allShown s (getD s 2 0 / 2)) (record { reads = refl }) (record { reads = refl })
-fields c s pl (Write f) e = either (wellCounted f s (countOf f s) && allSettings (pairsOf f s (countOf f s))) (record { reads = refl }) (record { reads = refl })
+    either (Reads pl) (eqb (getD s 2 0) (2 * (getD s 2 0 / 2)) && between 1 63 (getD s 2 0 / 2) && allShown s (getD s 2 0 / 2)) (record { reads = refl }) (record { reads = refl })
+fields c s pl (Write f) e = either (Reads pl) (wellCounted f s (countOf f s) && allSettings (pairsOf f s (countOf f s))) (record { reads = refl }) (record { reads = refl })
 fields c s pl (Ask q) e = record { reads = e }
-fields c s pl AskSettings e = either (between 1 4 (getD s 2 0) && eqb (getD s 3 0) 0 && between 1 100 (getD s 4 0)) (record { reads = refl }) (record { reads = refl })
+fields c s pl AskSettings e = either (Reads pl) (between 1 4 (getD s 2 0) && eqb (getD s 3 0) 0 && between 1 100 (getD s 4 0)) (record { reads = refl }) (record { reads = refl })
 fields c s pl Unknown e = record { reads = refl }
 
 asked : (s : List ℕ) (pl : ℕ) → Reads pl (requestOf s)
 unfolding reads requestOf askedOf
 asked s pl =
     let c = getD s 1 0 in
-    either (ltb (length s) 4) (record { reads = refl })
-    (either (eqb (getD s 0 0) 0xAA)
-    (either (eqb (crcOf (take (length s - 2) s)) (le16At s (length s - 2)))
-    (either (eqb (length s) (expectedBy c s .length)) (fields c s pl (expectedBy c s .command) (expected c (getD s 2 0) (getD s 6 0) pl .asks)) (record { reads = refl }))
+    either (Reads pl) (ltb (length s) 4) (record { reads = refl })
+    (either (Reads pl) (eqb (getD s 0 0) 0xAA)
+    (either (Reads pl) (eqb (crcOf (take (length s - 2) s)) (le16At s (length s - 2)))
+    (either (Reads pl) (eqb (length s) (expectedBy c s .length)) (fields c s pl (expectedBy c s .command) (expected c (getD s 2 0) (getD s 6 0) pl .asks)) (record { reads = refl }))
     (record { reads = refl }))
     (record { reads = refl }))
 

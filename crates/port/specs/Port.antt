@@ -46,7 +46,7 @@ pub record Answers (b : Board) (bytes before : List ℕ) (r : Turn) (after : Lis
 
 -- ---- turns in a row, each with the bytes that those before it did not take
 
--- what was written, oldest first, and what then stands
+-- what is said, oldest first, and what then stands
 pub record Served : Type 0 where
   pub replies : List (List ℕ)
   pub board : Board
