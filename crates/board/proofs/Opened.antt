@@ -4,7 +4,7 @@
 use Rattle.laws.specs.Fold.{shifted, packed}
 use Rattle.crc.specs.Crc as crc
 use Rattle.events.specs.Events as events
-use Rattle.events.specs.Memory as memory
+use Rattle.events.specs.Area as area
 use Rattle.guard.specs.Guard.{holdsOf, waitsOf, recoversOf, latchedOf, guardOf}
 use Rattle.guard.specs.Account.{latchedFrom, waitsFrom, rememberedFrom}
 use Rattle.guard.specs.Table.{is, chargeOff, dischargeOff, faulty, latchEvent, recoveryEvent, eventOf}
@@ -15,32 +15,54 @@ use Rattle.signed.specs.Signed as signed
 use Rattle.statistics.specs.Statistics as statistics
 use Rattle.hire.specs.Hire.{newHire}
 use Rattle.board.specs.Start.{startBoard}
-use Rattle.hire.specs.Tick.{readingsOf, speedAndDistanceOf, chargerOf, conditionsRecorded, conditionEventsOf, statusFor, statusOf, balancingOf, statisticsOf, switchesOf}
-use Rattle.pack.specs.Pack.{newPack, laterOf, timeOf, conditionsOf, tickNumber}
-use Rattle.board.specs.Tick.{readingsKept, timePassed, ridden, chargerSeen, guarded, recorded, statusSet, balanced, counted, switched, sensed, watched, acted, tickedOf, tickOf}
-use Rattle.hire.specs.Registers.{liveRegister}
-use Rattle.board.specs.Registers.{shownAt}
-use Rattle.board.specs.Handover.{handedOver, handoverOf}
-use Rattle.wire.specs.Wire.{words, sealed, padded}
-use Rattle.requests.specs.Requests.{expectedOf, lengthOf, clearOf, blockOf, addressAt, allShown, listOf, pairAt, pairsOf, countOf, wellCounted, allSettings, writeCommand, writeOf, kindOf, settingsOf, fieldsOf, askedOf, requestOf, refusalNumber, commandOf, hasLength, draftedOf, marks}
-use Rattle.board.specs.Frames.{valueAt, bodyBy, bodyOf, payloadOf, requestNumber, changedBy, requestBoard, refusalReply, takenReply, writeReply, queryReply, requestReply, frameNumber, frameBoard, frameReply}
+use Rattle.hire.specs.Tick.{readingsOf, speedAndDistanceOf, eventsOf, recordedAll, recordOf, statusFor, statusOf, balancingOf, statisticsOf}
+use Rattle.hire.specs.Tick.{switchesOf}
+use Rattle.pack.specs.Pack.{newPack, startOutcome, laterOf, timeOf, conditionsOf}
+use Rattle.board.specs.Tick.{readingsKept, timePassed, ridden, guarded, recorded, statusSet, balanced, counted, switched, sensed}
+use Rattle.board.specs.Tick.{watched, acted, tickedOf}
+use Rattle.hire.specs.Registers.{readingRegister}
+use Rattle.answers.specs.Registers.{shownAt, valueAt}
+use Rattle.answers.specs.Answers.{bodyBy, payloadOf, takenReply, acceptedReply, replyBytes, replyBy, askedOutcome}
+use Rattle.refusals.specs.Refusals.{first}
+use Rattle.board.specs.Handover.{handedOver}
+use Rattle.replies.specs.Replies.{words, sealed, padded}
+use Rattle.writes.specs.Writes.{pairAt, pairsOf, countOf, wellCounted, allSettings, writeCommand, draftedOf}
+use Rattle.requests.specs.Requests.{expectedOf, lengthOf, addressAt, allShown, kindOf, fieldsOf, requestOf, commandOf, hasLength, marks}
+use Rattle.board.specs.Changes.{changedBy, askedDeeds}
 use Rattle.receiver.specs.Receiver.{isHeld, withByte, offeredOf}
-use Rattle.board.specs.Line.{offerOf, fetchNumber, fetchBoard, fetchReply}
-use Rattle.board.specs.Memory.{saveNumber, savedArea, loadOf}
-use Rattle.board.specs.Calls.{step}
+use Rattle.board.specs.Calls.{shape, outcomeOf, boardBy, seenOf, leftOf}
 use Rattle.board.specs.Behaviour.{afterIn, answersIn}
-use Rattle.board.specs.Account.{settingsAt, secondsAt, clockAt, latchedAt, waitsAt, rememberedAt, sensedAt, windowAt, chargerAt, statusAt, decisionAt, balancingAt, chargeAt, dischargeAt, eventsAt, statisticsAt, heardAt, boardAt, asking, calling, deedsOf}
-use Rattle.board.specs.Numbers.{against, long, rows, first, numberAt, replyBytes}
+use Rattle.board.specs.Account.{settingsAt, secondsAt, clockAt, latchedAt, waitsAt, rememberedAt, sensedAt, windowAt, statusAt}
+use Rattle.board.specs.Account.{decisionAt, balancingAt, chargeAt, dischargeAt, eventsAt, statisticsAt, heardAt, boardAt, calling}
+use Rattle.board.specs.Account.{deedsOf}
 use Rattle.board.specs.Demands.{told, toldAll}
 
 unfoldable pub steps : Unit {0}
-unfolding tickedOf sensed watched acted readingsKept timePassed ridden chargerSeen guarded recorded statusSet balanced counted switched readingsOf timeOf speedAndDistanceOf chargerOf conditionsOf conditionsRecorded conditionEventsOf statusOf balancingOf statisticsOf switchesOf
+unfolding tickedOf sensed watched acted readingsKept timePassed ridden guarded recorded statusSet balanced counted switched readingsOf
+    timeOf speedAndDistanceOf conditionsOf recordOf statusOf balancingOf statisticsOf switchesOf
 steps = tt
 
 unfoldable pub opened : Unit {0}
-unfolding shifted packed crc.crcOf crc.byteIn crc.times crc.shiftedOut events.latest events.noEvents events.addOf events.sentOf holdsOf waitsOf recoversOf latchedOf guardOf is chargeOff dischargeOff faulty latchEvent recoveryEvent eventOf live.bitsOf live.speedBitsOf readings.judgedOf readings.numberOf settings.ofKind settings.registerOf settings.listed settings.withOf settings.noneBelow settings.inRange settings.ordered settings.judgedOf settings.numberOf settings.putOf settings.verdictOf settings.standingOf signed.bitsOf signed.fromBits signed.degreesOf statistics.distanceOf statistics.countsOf statistics.temperaturesShown statistics.riddenOf statistics.countedOf statistics.clearedAt statistics.registerOf newHire newPack startBoard steps laterOf statusFor tickNumber tickOf liveRegister shownAt handedOver handoverOf words sealed padded expectedOf clearOf blockOf addressAt allShown listOf pairAt pairsOf countOf wellCounted allSettings writeCommand writeOf kindOf settingsOf fieldsOf askedOf requestOf valueAt bodyBy payloadOf commandOf marks refusalNumber draftedOf requestNumber changedBy requestBoard refusalReply takenReply writeReply queryReply requestReply frameNumber frameBoard frameReply lengthOf isHeld withByte offeredOf offerOf fetchNumber fetchBoard fetchReply memory.areaOf memory.recordsIn memory.usedOf memory.parted memory.isRecorded memory.loadNumber memory.loadOf saveNumber savedArea loadOf step afterIn answersIn
+unfolding steps first shifted packed crc.crcOf crc.byteIn crc.times crc.shiftedOut events.latest events.noEvents events.addOf events.sentOf
+    holdsOf waitsOf
+    recoversOf latchedOf guardOf is chargeOff dischargeOff faulty latchEvent recoveryEvent eventOf eventsOf recordedAll live.bitsOf
+    live.speedBitsOf
+    settings.ofKind settings.registerOf settings.registers settings.valuesOf settings.settingsOf settings.fits settings.isOut
+    settings.inRange
+    settings.ordered settings.judgedOf settings.putOf settings.standingOf signed.bitsOf signed.fromBits signed.degreesOf
+    statistics.distanceOf
+    statistics.countsOf statistics.temperaturesShown statistics.riddenOf statistics.countedOf statistics.clearedAt statistics.registerOf
+    newHire newPack
+    startOutcome startBoard laterOf statusFor readingRegister shownAt valueAt handedOver words sealed padded expectedOf addressAt allShown
+    pairAt pairsOf countOf
+    wellCounted allSettings writeCommand kindOf fieldsOf requestOf commandOf hasLength marks draftedOf bodyBy payloadOf takenReply
+    acceptedReply replyBy
+    askedOutcome changedBy lengthOf isHeld withByte offeredOf area.areaOf area.recordsIn area.usedOf area.parted area.isRecorded
+    area.loadRows area.loadOf
+    askedDeeds shape outcomeOf boardBy seenOf leftOf afterIn answersIn
 opened = tt
 
 unfoldable pub accounted : Unit {0}
-unfolding opened latchedFrom waitsFrom rememberedFrom settingsAt secondsAt clockAt latchedAt waitsAt rememberedAt sensedAt windowAt chargerAt statusAt decisionAt balancingAt chargeAt dischargeAt eventsAt statisticsAt heardAt boardAt asking calling deedsOf told toldAll against long rows first numberAt replyBytes hasLength
+unfolding opened latchedFrom waitsFrom rememberedFrom settingsAt secondsAt clockAt latchedAt waitsAt rememberedAt sensedAt windowAt statusAt
+    decisionAt balancingAt chargeAt dischargeAt eventsAt statisticsAt heardAt boardAt calling deedsOf told toldAll replyBytes
 accounted = tt

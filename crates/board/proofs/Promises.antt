@@ -5,18 +5,17 @@ use mathlib.Core.Path.{_≡_, refl, sym, ap, _∙_}
 use mathlib.Core.Bool.{Bool, true, false, cond}
 use mathlib.Core.List.{List, []}
 use Prim.Native.Nat.{ℕ}
-use lib.Dec.{eqb}
-use lib.ListN.{length}
+use Rattle.refusals.specs.declared.Outcome.{Outcome}
+use Rattle.refusals.specs.Refusals.{isDone}
 use Rattle.events.specs.declared.Event.{Event}
-use Rattle.events.specs.Memory.{areaOf}
-use Rattle.readings.specs.declared.Readings.{Readings}
 use Rattle.board.specs.declared.Board.{Board}
 use Rattle.board.specs.declared.Answer.{Answer}
 use Rattle.board.specs.declared.Heard.{Heard}
-use Rattle.board.specs.declared.Shown.{Shown}
-use Rattle.board.specs.Promises.{Starts, Ticks, HandsOver, Frames, Offers, Fetches, Saves, Loads, ShowsRegister, ShowsCharge, ShowsDischarge, ShowsDecision, ShowsBalancing, ShowsLifetime, CountsKept, ShowsKept, CountsNew, ShowsNew}
-use Rattle.board.specs.Memory.{saveNumber, savedArea}
-use Rattle.board.specs.Calls.{Seen, seen, heard, framed, fetched, saved, areaSeen, step, tick, frame, handover, offer, fetch, save, load}
+use Rattle.answers.specs.declared.Shown.{Shown}
+use Rattle.board.specs.Promises.{Starts, Answers, Leaves, Offers, ShowsRegister, ShowsCharge, ShowsDischarge, ShowsDecision}
+use Rattle.board.specs.Promises.{ShowsBalancing, ShowsLifetime, CountsKept, ShowsKept, CountsNew, ShowsNew}
+use Rattle.board.specs.Calls.{Call, offer, Lent, nothingLent, replyLent, areaLent, Seen, seen, shape, seenOf, leftOf, outcomeIn}
+use Rattle.board.specs.Calls.{boardAfter, step}
 
 -- any two results that a promise allows are equal
 abbrev pub Determines : (A : Type 0) → (A → Type 0) → Type 0
@@ -25,29 +24,19 @@ Determines A promise = (r r′ : A) → promise r → promise r′ → r ≡ r�
 equal : {A : Type 0} (x : A) → Determines A (λ r. r ≡ x)
 equal x r r′ p q = p ∙ sym q
 
--- the answer and the buffer of a frame
-answered : (b : Board) (s before : List ℕ) (r : Answer) (after : List ℕ) → Frames b s before r after → r ≡ framed b s (length before)
-answered b s before r after f = λ i. record { number = f .number i; board = f .board i }
-
-fetch-answered : (b : Board) (before : List ℕ) (r : Answer) (after : List ℕ) → Fetches b before r after → r ≡ fetched b (length before)
-fetch-answered b before r after f = λ i. record { number = f .number i; board = f .board i }
-
-save-answered : (b : Board) (before : List ℕ) (r : Answer) (after : List ℕ) → Saves b before r after → r ≡ saved b (length before)
-save-answered b before r after f = λ i. record { number = f .number i; board = f .board i }
+-- of a call that is lent something: its answer, and what is left there
+both : (b : Board) (c : Call) (before : List ℕ) (r r′ : Answer) (after after′ : List ℕ) → Leaves b c before r after
+    → Leaves b c before r′ after′ → (r ≡ r′) × (after ≡ after′)
+both b c before r r′ after after′ f g = (equal _ r r′ (f .answer) (g .answer), equal _ after after′ (f .lent) (g .lent))
 
 -- the public calls, and what is read off a board
 pub record Promises : Type 0 where
   pub start : (cells perKm : ℕ) → Determines Answer (Starts cells perKm)
-  pub ticked : (b : Board) (cells : List ℕ) (rd : Readings) → Determines Answer (Ticks b cells rd)
-  pub framed : (b : Board) (s before : List ℕ) (r r′ : Answer) (after after′ : List ℕ)
-      → Frames b s before r after → Frames b s before r′ after′ → (r ≡ r′) × (after ≡ after′)
-  pub handed : (b : Board) → Determines Answer (HandsOver b)
+  -- a call that is lent nothing, and one that is lent something
+  pub answered : (b : Board) (c : Call) → Determines Answer (Answers b c)
+  pub left : (b : Board) (c : Call) (before : List ℕ) (r r′ : Answer) (after after′ : List ℕ)
+      → Leaves b c before r after → Leaves b c before r′ after′ → (r ≡ r′) × (after ≡ after′)
   pub offered : (b : Board) (bytes : List ℕ) → Determines Heard (Offers b bytes)
-  pub fetched : (b : Board) (before : List ℕ) (r r′ : Answer) (after after′ : List ℕ)
-      → Fetches b before r after → Fetches b before r′ after′ → (r ≡ r′) × (after ≡ after′)
-  pub saved : (b : Board) (before : List ℕ) (r r′ : Answer) (after after′ : List ℕ)
-      → Saves b before r after → Saves b before r′ after′ → (r ≡ r′) × (after ≡ after′)
-  pub loaded : (b : Board) (area : List ℕ) → Determines Answer (Loads b area)
   pub register : (b : Board) (at : ℕ) → Determines Shown (ShowsRegister b at)
   pub charge : (b : Board) → Determines Bool (ShowsCharge b)
   pub discharge : (b : Board) → Determines Bool (ShowsDischarge b)
@@ -63,13 +52,9 @@ pub tight : Promises
 tight =
     record {
       start = λ cells perKm. equal _;
-      ticked = λ b cells rd. equal _;
-      framed = λ b s before r r′ after after′ f g. (equal _ r r′ (answered b s before r after f) (answered b s before r′ after′ g), equal _ after after′ (f .reply) (g .reply));
-      handed = λ b. equal _;
+      answered = λ b c. equal _;
+      left = both;
       offered = λ b bytes. equal _;
-      fetched = λ b before r r′ after after′ f g. (equal _ r r′ (fetch-answered b before r after f) (fetch-answered b before r′ after′ g), equal _ after after′ (f .reply) (g .reply));
-      saved = λ b before r r′ after after′ f g. (equal _ r r′ (save-answered b before r after f) (save-answered b before r′ after′ g), equal _ after after′ (f .area) (g .area));
-      loaded = λ b area. equal _;
       register = λ b at. equal _;
       charge = λ b. equal _;
       discharge = λ b. equal _;
@@ -84,41 +69,53 @@ tight =
 
 -- ---- a result that a promise allows is the behaviour's step
 
-pub tick-steps : (b : Board) (cells : List ℕ) (rd : Readings) (r : Answer) → Ticks b cells rd r → _≡_ {A = Board × Seen} (r .board, seen r []) (step b (tick cells rd))
-unfolding step
-tick-steps b cells rd r p = λ i. (p i .board, seen (p i) [])
-
-pub handover-steps : (b : Board) (r : Answer) → HandsOver b r → _≡_ {A = Board × Seen} (r .board, seen r []) (step b handover)
-unfolding step
-handover-steps b r p = λ i. (p i .board, seen (p i) [])
-
-pub frame-steps : (b : Board) (s before : List ℕ) (r : Answer) (after : List ℕ)
-    → Frames b s before r after → _≡_ {A = Board × Seen} (r .board, seen r after) (step b (frame s (length before)))
-unfolding step
-frame-steps b s before r after f = let p = answered b s before r after f in λ i. (p i .board, seen (p i) (f .reply i))
-
-pub offer-steps : (b : Board) (bytes : List ℕ) (r : Heard) → Offers b bytes r → _≡_ {A = Board × Seen} (r .board, heard r) (step b (offer bytes))
-unfolding step
-offer-steps b bytes r p = λ i. (p i .board, heard (p i))
-
-pub fetch-steps : (b : Board) (before : List ℕ) (r : Answer) (after : List ℕ)
-    → Fetches b before r after → _≡_ {A = Board × Seen} (r .board, seen r after) (step b (fetch (length before)))
-unfolding step
-fetch-steps b before r after f = let p = fetch-answered b before r after f in λ i. (p i .board, seen (p i) (f .reply i))
-
--- what is seen of an area is what a save leaves of it where it is done
-pub save-steps : (b : Board) (before : List ℕ) (r : Answer) (after : List ℕ)
-    → Saves b before r after → _≡_ {A = Board × Seen} (r .board, seen r (areaSeen (r .number) after)) (step b (save (length before)))
-unfolding step savedArea
-save-steps b before r after f =
-    let p = save-answered b before r after f in
-    (λ i. (p i .board, seen (p i) (areaSeen (p i .number) (f .area i))))
-    ∙ ap (λ (l : List ℕ). (b, seen (saved b (length before)) l)) (go (eqb (saveNumber b (length before)) 0))
+-- of a call that is lent nothing
+pub answer-steps : (b : Board) (c : Call) (r : Answer) → shape c .lent b ≡ nothingLent → shape c .carries b ≡ 0 → Answers b c r
+    → _≡_ {A = Board × Seen} (r .board, seen (r .board) (r .outcome) [] 0) (step b c)
+unfolding seenOf
+answer-steps b c r l k p =
+    (λ i. (p i .board, seen (p i .board) (p i .outcome) [] 0))
+    ∙ (λ i. (boardAfter b c, seen (boardAfter b c) (outcomeIn b c) (seenOf (sym l i) (outcomeIn b c)) (none (isDone (outcomeIn b c)) i)))
   where
-    go : (t : Bool) → cond t (cond t (areaOf (b .hire .events)) before) [] ≡ cond t (areaOf (b .hire .events)) []
-    go true = refl
-    go false = refl
+    none : (t : Bool) → 0 ≡ cond t (shape c .carries b) 0
+    none true = sym k
+    none false = refl
 
-pub load-steps : (b : Board) (area : List ℕ) (r : Answer) → Loads b area r → _≡_ {A = Board × Seen} (r .board, seen r []) (step b (load area))
-unfolding step
-load-steps b area r p = λ i. (p i .board, seen (p i) [])
+-- of one that is lent something: what is seen of it is what is left there, but of an area that is not written
+abbrev pub seenIn : Lent → Outcome → List ℕ → List ℕ
+seenIn nothingLent outcome after = []
+seenIn (replyLent s room reply) outcome after = after
+seenIn (areaLent area) outcome after = cond (isDone outcome) after []
+
+pub lent-steps : (b : Board) (c : Call) (before : List ℕ) (r : Answer) (after : List ℕ) → shape c .carries b ≡ 0 → Leaves b c before r after
+    → _≡_ {A = Board × Seen} (r .board, seen (r .board) (r .outcome) (seenIn (shape c .lent b) (r .outcome) after) 0) (step b c)
+unfolding seenOf leftOf
+lent-steps b c before r after k f =
+    (λ i. (
+      f .answer i .board,
+      seen (f .answer i .board) (f .answer i .outcome) (seenIn (shape c .lent b) (f .answer i .outcome) (f .lent i))
+          0,
+    ))
+    ∙ (λ i. (
+      boardAfter b c,
+      seen (boardAfter b c) (outcomeIn b c) (same (shape c .lent b) (outcomeIn b c) i)
+          (none (isDone (outcomeIn b c)) i),
+    ))
+  where
+    none : (t : Bool) → 0 ≡ cond t (shape c .carries b) 0
+    none true = sym k
+    none false = refl
+
+    area-seen : (t : Bool) (area : List ℕ) → cond t (cond t area before) [] ≡ cond t area []
+    area-seen true area = refl
+    area-seen false area = refl
+
+    same : (l : Lent) (o : Outcome) → seenIn l o (leftOf l o before) ≡ seenOf l o
+    same nothingLent o = refl
+    same (replyLent s room reply) o = refl
+    same (areaLent area) o = area-seen (isDone o) area
+
+pub offer-steps : (b : Board) (bytes : List ℕ) (r : Heard) → Offers b bytes r
+    → _≡_ {A = Board × Seen} (r .board, seen (r .board) (r .outcome) [] (r .taken)) (step b (offer bytes))
+unfolding shape seenOf
+offer-steps b bytes r p = λ i. (p i .board, seen (p i .board) (p i .outcome) [] (p i .taken))

@@ -1,22 +1,26 @@
 -- The three demands, of any behaviour. None has a hypothesis but what demand 3 says of the two boards.
 -- Assumes nothing.
-use mathlib.Core.Bool.{Bool, true, false, _||_, cond}
+use mathlib.Core.Bool.{Bool, true, false, cond}
 use mathlib.Core.Logic.{_⊎_}
 use mathlib.Core.List.{List, [], _∷_, reverse}
 use mathlib.Core.Path.{_≡_}
 use Prim.Native.Nat.{ℕ, _-_, _≤_}
-use lib.Dec.{eqb}
-use lib.ListN.{length, take, drop, getD, replicate}
-use Rattle.events.specs.Memory.{areaOf}
+use lib.ListN.{length, take, drop, replicate}
+use Rattle.refusals.specs.declared.Refusal.{Refusal}
+use Rattle.refusals.specs.declared.Refusal.the-variants.{NoFrameHeld, NoBoard}
+use Rattle.refusals.specs.declared.Outcome.the-variants.{Done, Refused}
+use Rattle.refusals.specs.Refusals.{isDone}
 use Rattle.guard.specs.Quiet.{allQuiet}
 use Rattle.pack.specs.Pack.{usableCount}
+use Rattle.requests.specs.Requests.{requestOf}
+use Rattle.replies.specs.Replies.{padded}
+use Rattle.answers.specs.Answers.{replyBytes, refusedReply}
 use Rattle.board.specs.declared.Board.{Board}
-use Rattle.board.specs.Calls.{Call, Seen, tick, frame, handover, offer, fetch, save, load, areaSeen, step}
+use Rattle.board.specs.Calls.{Call, Seen, handover, fetch, Lent, nothingLent, replyLent, areaLent, shape, nacks, letsGo, step}
 use Rattle.board.specs.Behaviour.{Behaviour, afterIn, answersIn}
-use Rattle.wire.specs.Wire.{sealed, padded, nackOf}
-use Rattle.board.specs.Line.{heldIn}
-use Rattle.board.specs.Numbers.{asked, numberAt, replyBytes}
-use Rattle.board.specs.Account.{Deed, boardAt, deedsOf, settingsAt, clockAt, countAt, latchedAt, waitsAt, rememberedAt, momentsAt}
+use Rattle.board.specs.Deeds.{Deed}
+use Rattle.board.specs.Account.{boardAt, outcomeAt, deedsOf}
+use Rattle.board.specs.Account.Kept.{settingsAt, clockAt, countAt, latchedAt, waitsAt, rememberedAt, momentsAt}
 
 -- the history of calls made in that order, and its deeds
 abbrev pub deeds : ℕ → ℕ → List Call → List Deed
@@ -25,78 +29,76 @@ deeds cells perKm cs = deedsOf cells perKm (reverse cs)
 -- ---- Demand 1. Any bytes, readings or settings may arrive; each call answers and ends. Bad input gets its number, changes no
 -- state, and leaves the named NACK or zeros. Nothing lent earlier survives past the end of a reply.
 
--- what a buffer of that room holds after a refusal of the request s: a NACK with its error, then zeros, or zeros alone
-abbrev pub refusedBuffer : ℕ → List ℕ → ℕ → List ℕ
-refusedBuffer number s room =
-    cond (eqb number 3) (padded room (sealed (nackOf (getD s 1 0) 0x01)))
-    (cond (eqb number 4 || eqb number 5) (padded room (sealed (nackOf (getD s 1 0) 0x00))) (replicate room 0))
+-- how many bytes the reply to an accepted request has
+abbrev pub replySize : Board → List ℕ → ℕ
+replySize b s = replyBytes (b .pack) (b .hire) (requestOf s)
 
--- what is left of a buffer of that room for the reply to the request s, where the board before it shows b: of the same length; after a refusal
--- as above; after a reply zeros, to its end
+-- what is left of a buffer of that room for the reply to the request s, where the board before it shows b: of the same length; after a
+-- refusal what it leaves, a NACK or nothing, and zeros; after a reply zeros, to its end
 abbrev pub LeavesReply : Board → Seen → List ℕ → ℕ → Type 0
 LeavesReply b a s room =
     (length (a .buffer) ≡ room)
-    × ((a .number ≡ 0 → ⊥) → a .buffer ≡ refusedBuffer (a .number) s room)
-    × (a .number ≡ 0 → drop (replyBytes b (asked s)) (a .buffer) ≡ replicate (room - replyBytes b (asked s)) 0)
+    × ((refusal : Refusal) → a .outcome ≡ Refused refusal → a .buffer ≡ padded room (refusedReply refusal s))
+    × (a .outcome ≡ Done → drop (replySize b s) (a .buffer) ≡ replicate (room - replySize b s) 0)
 
--- what a call leaves of the buffer that it is lent; a refused offer takes nothing; a saved area is the board's events, and of one that is refused nothing is
--- seen
-abbrev pub Leaves : Board → Seen → Call → Type 0
-Leaves b a (tick cells r) = a .buffer ≡ []
-Leaves b a (frame s room) = LeavesReply b a s room
-Leaves b a handover = a .buffer ≡ []
-Leaves b a (offer bytes) = (a .buffer ≡ []) × ((a .number ≡ 0 → ⊥) → a .taken ≡ 0)
-Leaves b a (fetch room) = LeavesReply b a (heldIn b) room
-Leaves b a (save n) = a .buffer ≡ areaSeen (a .number) (areaOf (b .hire .events))
-Leaves b a (load area) = a .buffer ≡ []
-
--- document 02, W-201: "a fetch that answers with a NACK lets the held frame go and changes no other state, which amends demand 1 and 01's table"
-abbrev pub nacks : Call → ℕ → Bool
-nacks (tick cells r) number = false
-nacks (frame s room) number = false
-nacks handover number = false
-nacks (offer bytes) number = false
-nacks (fetch room) number = eqb number 3 || eqb number 4 || eqb number 5
-nacks (save n) number = false
-nacks (load area) number = false
+-- what a call leaves of what it is lent; a written area is what the call says, and of one that is refused nothing is seen
+abbrev pub Leaves : Board → Seen → Lent → Type 0
+Leaves b a nothingLent = a .buffer ≡ []
+Leaves b a (replyLent s room reply) = LeavesReply b a s room
+Leaves b a (areaLent area) = a .buffer ≡ cond (isDone (a .outcome)) area []
 
 -- calls that are none of the raw line's
 abbrev pub offTheLine : List Call → Bool
 offTheLine [] = true
-offTheLine (tick cells r ∷ cs) = offTheLine cs
-offTheLine (frame s room ∷ cs) = offTheLine cs
-offTheLine (handover ∷ cs) = offTheLine cs
-offTheLine (offer bytes ∷ cs) = false
-offTheLine (fetch room ∷ cs) = false
-offTheLine (save n ∷ cs) = offTheLine cs
-offTheLine (load area ∷ cs) = offTheLine cs
+offTheLine (c ∷ cs) = cond (shape c .onLine) false (offTheLine cs)
+
+-- the state after calls, and what is seen at one more
+abbrev pub reached : (B : Behaviour) → ℕ → ℕ → List Call → B .State
+reached B cells perKm cs = afterIn B (B .start cells perKm) cs
+
+abbrev pub shown : (B : Behaviour) → ℕ → ℕ → List Call → Call → Seen
+shown B cells perKm cs c = B .step (reached B cells perKm cs) c .1
+
+abbrev pub next : (B : Behaviour) → ℕ → ℕ → List Call → Call → B .State
+next B cells perKm cs c = B .step (reached B cells perKm cs) c .0
 
 pub record Demand1 (B : Behaviour) : Type 0 where
   -- a start gets its number
-  pub starts : (cells perKm : ℕ) → B .started cells perKm ≡ cond (usableCount cells) 0 21
-  -- after any calls, each call gets its number, by the table; a refused one changes no state
-  pub numbers : (cells perKm : ℕ) (cs : List Call) (c : Call) → B .step (afterIn B (B .start cells perKm) cs) c .1 .number ≡ numberAt cells perKm (deeds cells perKm cs) c
+  pub starts : (cells perKm : ℕ) → B .started cells perKm ≡ cond (usableCount cells) Done (Refused NoBoard)
+  -- after any calls, each call gets its number, by its rows
+  pub outcomes : (cells perKm : ℕ) (cs : List Call) (c : Call)
+      → shown B cells perKm cs c .outcome ≡ outcomeAt cells perKm (deeds cells perKm cs) c
+  -- a refused one changes no state
   pub unchanged : (cells perKm : ℕ) (cs : List Call) (c : Call)
-      → (B .step (afterIn B (B .start cells perKm) cs) c .1 .number ≡ 0 → ⊥) → nacks c (B .step (afterIn B (B .start cells perKm) cs) c .1 .number) ≡ false
-      → B .step (afterIn B (B .start cells perKm) cs) c .0 ≡ afterIn B (B .start cells perKm) cs
-  -- but that a fetch that answers with a NACK lets the held frame go: none is held then, and all calls but the raw line's are answered as if it
-  -- had not come
-  pub lets-go : (cells perKm : ℕ) (cs : List Call) (room : ℕ) → nacks (fetch room) (B .step (afterIn B (B .start cells perKm) cs) (fetch room) .1 .number) ≡ true
-      → (B .step (B .step (afterIn B (B .start cells perKm) cs) (fetch room) .0) (fetch room) .1 .number ≡ 7)
-      × ((zs : List Call) → offTheLine zs ≡ true → answersIn B (B .step (afterIn B (B .start cells perKm) cs) (fetch room) .0) zs ≡ answersIn B (afterIn B (B .start cells perKm) cs) zs)
+      → (shown B cells perKm cs c .outcome ≡ Done → ⊥)
+      → letsGo (shape c) (shown B cells perKm cs c .outcome) ≡ false
+      → next B cells perKm cs c ≡ reached B cells perKm cs
+  -- but that a fetch that answers with a NACK lets the held frame go: none is held then, and all calls but the raw line's are answered as
+  -- if it had not come. (2 is among what lets go for boards that no start reaches: by `outcomes` no fetch is answered 2,
+  -- proofs/Demands/Demand1, own)
+  pub lets-go : (cells perKm : ℕ) (cs : List Call) (room : ℕ)
+      → nacks (shown B cells perKm cs (fetch room) .outcome) ≡ true
+      → (B .step (next B cells perKm cs (fetch room)) (fetch room) .1 .outcome ≡ Refused NoFrameHeld)
+      × ((zs : List Call) → offTheLine zs ≡ true
+      → answersIn B (next B cells perKm cs (fetch room)) zs ≡ answersIn B (reached B cells perKm cs) zs)
   -- and leaves of the buffer what is named, and nothing else
-  pub leaves : (cells perKm : ℕ) (cs : List Call) (c : Call) → Leaves (boardAt cells perKm (deeds cells perKm cs)) (B .step (afterIn B (B .start cells perKm) cs) c .1) c
+  pub leaves : (cells perKm : ℕ) (cs : List Call) (c : Call)
+      → Leaves (boardAt cells perKm (deeds cells perKm cs)) (shown B cells perKm cs c)
+      (shape c .lent (boardAt cells perKm (deeds cells perKm cs)))
+  -- a refused one takes nothing
+  pub takes : (cells perKm : ℕ) (cs : List Call) (c : Call) → (shown B cells perKm cs c .outcome ≡ Done → ⊥)
+      → shown B cells perKm cs c .carried ≡ 0
 
 -- ---- Demand 2. Every reply, register, event, switch and balancing bit is what document 01 works out.
 
--- what the paper shows at a call, after a history of calls (newest first): number and buffer by the board that the history makes,
+-- what the paper shows at a call, after a history of calls (newest first): outcome and buffer by the board that the history makes,
 -- switches and bits by the history with this call
 unfoldable pub told : ℕ → ℕ → List Call → Call → Seen
 told cells perKm h c =
     record {
-      number = step (boardAt cells perKm (deedsOf cells perKm h)) c .1 .number;
+      outcome = step (boardAt cells perKm (deedsOf cells perKm h)) c .1 .outcome;
       buffer = step (boardAt cells perKm (deedsOf cells perKm h)) c .1 .buffer;
-      taken = step (boardAt cells perKm (deedsOf cells perKm h)) c .1 .taken;
+      carried = step (boardAt cells perKm (deedsOf cells perKm h)) c .1 .carried;
       charge = boardAt cells perKm (deedsOf cells perKm (c ∷ h)) .hire .charge;
       discharge = boardAt cells perKm (deedsOf cells perKm (c ∷ h)) .hire .discharge;
       decision = boardAt cells perKm (deedsOf cells perKm (c ∷ h)) .hire .decision;
@@ -138,7 +140,7 @@ abbrev pub Alike : Behaviour → (List Deed → List Deed → Type 0) → Type 0
 Alike B Agree =
     (cells perKm : ℕ) (xs ys zs : List Call)
     → Agree (deeds cells perKm xs) (deeds cells perKm ys)
-    → answersIn B (afterIn B (B .start cells perKm) xs) (handover ∷ zs) ≡ answersIn B (afterIn B (B .start cells perKm) ys) (handover ∷ zs)
+    → answersIn B (reached B cells perKm xs) (handover ∷ zs) ≡ answersIn B (reached B cells perKm ys) (handover ∷ zs)
 
 -- (300, equal counts, equal waits and equal memories are needed: crate `facts`, Needed)
 abbrev pub Demand3 : Behaviour → Type 0

@@ -2,13 +2,10 @@
 -- 116 takes the lifetime; status becomes 0x97 and the balancing bits 0. Kept: start numbers, settings, lifetime with its
 -- tenths, latched conditions, waits and, by W-204 of document 02, the sensors remembered. Nothing else may be kept.
 -- Assumes nothing.
-use mathlib.Core.Bool.{cond}
-use Rattle.pack.specs.Pack.{startNumber}
 use Rattle.hire.specs.declared.Hire.{Hire}
 use Rattle.hire.specs.Hire.{newHire}
 use Rattle.board.specs.declared.Board.{Board}
-use Rattle.board.specs.declared.Answer.{Answer}
-use Rattle.board.specs.State.{usable, withHire}
+use Rattle.board.specs.State.{withHire}
 
 -- what went through a handover is a new hire
 abbrev pub handedHire : Board → Hire
@@ -17,7 +14,3 @@ handedHire b = newHire (b .pack .clock .seconds)
 -- the pack as it was, and a new hire
 unfoldable pub handedOver : Board → Board
 handedOver b = withHire b (handedHire b)
-
--- on a usable board handover never refuses
-unfoldable pub handoverOf : Board → Answer
-handoverOf b = record { number = startNumber (b .pack); board = cond (usable b) (handedOver b) b }

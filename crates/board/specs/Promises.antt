@@ -1,65 +1,81 @@
 -- What each public function of the board promises of its result. The functions cite these by name, and so does the theorem that any two
 -- results which a promise allows are equal (proofs/Promises).
 -- Assumes nothing.
-use mathlib.Core.Bool.{Bool}
-use mathlib.Core.List.{List}
+use mathlib.Core.Bool.{Bool, not, cond}
+use mathlib.Core.List.{List, [], _∷_}
 use mathlib.Core.Path.{_≡_}
 use Prim.Native.Nat.{ℕ, _≤_}
-use lib.ListN.{length}
+use lib.Dec.{ltb}
+use Rattle.refusals.specs.declared.Refusal.{Refusal}
+use Rattle.refusals.specs.declared.Refusal.the-variants.{NoRoom, NoFrameHeld, NoBoard}
+use Rattle.refusals.specs.declared.Outcome.{Outcome}
+use Rattle.refusals.specs.Refusals.{isDone, first}
 use Rattle.events.specs.declared.Event.{Event}
 use Rattle.events.specs.Events.{capacity, keptCount, newCount, keptOf, newOf, placed}
-use Rattle.readings.specs.declared.Readings.{Readings}
 use Rattle.board.specs.declared.Board.{Board}
 use Rattle.board.specs.declared.Answer.{Answer}
 use Rattle.board.specs.declared.Heard.{Heard}
-use Rattle.board.specs.declared.Shown.{Shown}
+use Rattle.answers.specs.declared.Shown.{Shown}
+use Rattle.answers.specs.Registers.{shownAt}
+use Rattle.answers.specs.Answers.{askedOutcome, askedReply}
+use Rattle.requests.specs.Requests.{requestOf}
+use Rattle.replies.specs.Replies.{Filled}
 use Rattle.board.specs.Start.{startOf}
-use Rattle.board.specs.Tick.{tickOf}
-use Rattle.board.specs.Handover.{handoverOf}
-use Rattle.board.specs.Registers.{shownAt}
-use Rattle.board.specs.Frames.{frameNumber, frameBoard, frameReply}
-use Rattle.board.specs.Line.{offerOf, fetchNumber, fetchBoard, fetchReply}
-use Rattle.board.specs.Memory.{saveNumber, savedArea, loadOf}
+use Rattle.board.specs.State.{usable}
+use Rattle.board.specs.Line.{holds}
+use Rattle.board.specs.Changes.{changedBy}
+use Rattle.board.specs.Calls.{Call, offer, shape, outcomeIn, leftOf, answerTo, hearing}
+
+-- ---- the first rows of a frame and of a fetch
+
+abbrev pub roomRows : Board → ℕ → List (Refusal × Bool)
+roomRows b room = (NoBoard, not (usable b)) ∷ (NoRoom, ltb room 259) ∷ []
+
+abbrev pub readyRows : Board → ℕ → List (Refusal × Bool)
+readyRows b room = (NoBoard, not (usable b)) ∷ (NoRoom, ltb room 259) ∷ (NoFrameHeld, not (holds b)) ∷ []
+
+-- what is given back to a request that there is room for
+abbrev pub requestOutcome : Board → List ℕ → Outcome
+requestOutcome b s = askedOutcome (b .pack) (b .hire) s (requestOf s)
+
+abbrev pub requestAnswer : Board → List ℕ → Answer
+requestAnswer b s = record { outcome = requestOutcome b s; board = cond (isDone (requestOutcome b s)) (changedBy b s (requestOf s)) b }
 
 -- ---- the calls
 
 abbrev pub Starts : ℕ → ℕ → Answer → Type 0
 Starts cells perKm r = r ≡ startOf cells perKm
 
-abbrev pub Ticks : Board → List ℕ → Readings → Answer → Type 0
-Ticks b cells readings r = r ≡ tickOf b cells readings
+-- a call that is lent nothing: what it comes to, and the board after it
+abbrev pub Answers : Board → Call → Answer → Type 0
+Answers b c r = r ≡ answerTo b c
 
-abbrev pub HandsOver : Board → Answer → Type 0
-HandsOver b r = r ≡ handoverOf b
+-- a call that is lent a buffer or an area: those, and every byte of it; an area that is refused is as it was
+abbrev pub leftIn : Board → Call → List ℕ → List ℕ
+leftIn b c before = leftOf (shape c .lent b) (outcomeIn b c) before
 
--- a frame: its number, the board after it, and every byte of the reply buffer
-pub record Frames (b : Board) (s before : List ℕ) (r : Answer) (after : List ℕ) : Type 0 where
-  pub number : r .number ≡ frameNumber b s (length before)
-  pub board : r .board ≡ frameBoard b s (length before)
-  pub reply : after ≡ frameReply b s (length before)
+pub record Leaves (b : Board) (c : Call) (before : List ℕ) (r : Answer) (after : List ℕ) : Type 0 where
+  pub answer : r ≡ answerTo b c
+  pub lent : after ≡ leftIn b c before
 
 abbrev pub Offers : Board → List ℕ → Heard → Type 0
-Offers b bytes r = r ≡ offerOf b bytes
+Offers b bytes r = r ≡ hearing b (offer bytes)
 
--- a fetch, as a frame
-pub record Fetches (b : Board) (before : List ℕ) (r : Answer) (after : List ℕ) : Type 0 where
-  pub number : r .number ≡ fetchNumber b (length before)
-  pub board : r .board ≡ fetchBoard b (length before)
-  pub reply : after ≡ fetchReply b (length before)
+pub record Roomed (b : Board) (room : ℕ) (r : Outcome) : Type 0 where
+  pub outcome : r ≡ first (roomRows b room)
 
--- a save: its number, the board as it was, and every byte of the area
-pub record Saves (b : Board) (before : List ℕ) (r : Answer) (after : List ℕ) : Type 0 where
-  pub number : r .number ≡ saveNumber b (length before)
-  pub board : r .board ≡ b
-  pub area : after ≡ savedArea b before
+pub record Readied (b : Board) (room : ℕ) (r : Outcome) : Type 0 where
+  pub outcome : r ≡ first (readyRows b room)
 
-abbrev pub Loads : Board → List ℕ → Answer → Type 0
-Loads b area r = r ≡ loadOf b area
+-- in a buffer of any length
+pub record Answered (b : Board) (s before : List ℕ) (r : Answer) (after : List ℕ) : Type 0 where
+  pub answer : r ≡ requestAnswer b s
+  pub reply : Filled before (askedReply (b .pack) (b .hire) s (requestOf s)) after
 
 -- ---- what is read off a board
 
 abbrev pub ShowsRegister : Board → ℕ → Shown → Type 0
-ShowsRegister b at r = r ≡ shownAt b at
+ShowsRegister b at r = r ≡ shownAt (b .pack) (b .hire) at
 
 abbrev pub ShowsCharge : Board → Bool → Type 0
 ShowsCharge b r = r ≡ b .hire .charge

@@ -2,7 +2,7 @@
 -- values, everything else at zero, switches off, status 0x97.
 -- Assumes nothing.
 use Prim.Native.Nat.{ℕ}
-use Rattle.pack.specs.Pack.{newPack, startNumber}
+use Rattle.pack.specs.Pack.{newPack, startOutcome}
 use Rattle.hire.specs.Hire.{newHire}
 use Rattle.board.specs.declared.Board.{Board}
 use Rattle.board.specs.declared.Answer.{Answer}
@@ -10,6 +10,6 @@ use Rattle.board.specs.declared.Answer.{Answer}
 unfoldable pub startBoard : ℕ → ℕ → Board
 startBoard cells perKm = record { pack = newPack cells perKm; hire = newHire 0 }
 
--- number 21: cell count outside 4 to 16
+-- refused: cell count outside 4 to 16
 abbrev pub startOf : ℕ → ℕ → Answer
-startOf cells perKm = record { number = startNumber (startBoard cells perKm .pack); board = startBoard cells perKm }
+startOf cells perKm = record { outcome = startOutcome (startBoard cells perKm .pack); board = startBoard cells perKm }

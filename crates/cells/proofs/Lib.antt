@@ -1,1 +1,2 @@
 pub mod SomeEvery
+mod Facts

@@ -61,11 +61,21 @@ module _ {Before : ℕ → ℕ → Type 0} {start x : ℕ} {xs : List ℕ} (e : 
 
 lowest : (cells : List ℕ) → Foremost _≤_ 65535 (lowestOf cells) cells
 lowest =
-    foremost (record { one = λ a b. min-cases a b _ (λ h e. inl e) (λ h e. inr e); both = λ x a b h. (omega arith, omega arith); same = λ a. omega arith }) 65535
+    foremost (record {
+      one = λ a b. min-cases a b _ (λ h e. inl e) (λ h e. inr e);
+      both = λ x a b h. (omega arith, omega arith);
+      same = λ a.
+          omega arith;
+    }) 65535
 
 highest : (cells : List ℕ) → Foremost (λ a b. b ≤ a) 0 (highestOf cells) cells
 highest =
-    foremost (record { one = λ a b. max-cases a b _ (λ h e. inr e) (λ h e. inl e); both = λ x a b h. (omega arith, omega arith); same = λ a. omega arith }) 0
+    foremost (record {
+      one = λ a b. max-cases a b _ (λ h e. inr e) (λ h e. inl e);
+      both = λ x a b h. (omega arith, omega arith);
+      same = λ a.
+          omega arith;
+    }) 0
 
 module _ (k : ℕ) (cells : List ℕ) where
   pub some-at-most : k < 65535 → (lowestOf cells ≤ k) ↔ SomeCell (λ cell. cell ≤ k) cells

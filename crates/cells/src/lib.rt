@@ -76,7 +76,7 @@ pub fn decision(cells: &[u16], r303: u16, r308: u16) -> u16
     bits
 }
 
-// A cell in mV, rounded down.
+// A cell to the nearest mV, a half going up.
 pub fn millivolts(cell: u16) -> u16
     ensures { λ r. ⌜ r ≡ millivoltsOf cell ⌝ }
 {

@@ -1,5 +1,6 @@
 -- An even number that is exclusive-ored in goes through a shift halved: so far the step is linear for exclusive-or. So bits above the n
--- lowest only move down while those are shifted out, and n shifts of a number are its upper bits, exclusive-ored with n shifts of its lowest.
+-- lowest only move down while those are shifted out, and n shifts of a number are its upper bits, exclusive-ored with n shifts of its
+-- lowest.
 -- Assumes nothing.
 use mathlib.Core.Path.{_≡_, refl, sym, ap, _∙_}
 use mathlib.Core.Bool.{Bool, true, false, cond}
@@ -13,9 +14,11 @@ use lib.Bits.{bitXor, xor-shr, xor-shifted, xor-add-and, shifted-half, shifted-e
 use Rattle.crc.specs.Crc.{shiftedOut, times}
 
 -- one bit more: the halves are equal, and both sides are as odd as the sum of the three
-bit-more : (a b c : ℕ) → bitXor (bitXor (a / 2) (b / 2)) (c / 2) ≡ bitXor (a / 2) (bitXor (b / 2) (c / 2)) → bitXor (bitXor a b) c ≡ bitXor a (bitXor b c)
+bit-more : (a b c : ℕ) → bitXor (bitXor (a / 2) (b / 2)) (c / 2) ≡ bitXor (a / 2) (bitXor (b / 2) (c / 2))
+    → bitXor (bitXor a b) c ≡ bitXor a (bitXor b c)
 bit-more a b c e =
-    let halves : bitXor (bitXor a b) c / 2 ≡ bitXor a (bitXor b c) / 2 = cc (xor-shr (bitXor a b) c 1, xor-shr a b 1, xor-shr a (bitXor b c) 1, xor-shr b c 1) in
+    let halves : bitXor (bitXor a b) c / 2 ≡ bitXor a (bitXor b c) / 2 =
+    cc (xor-shr (bitXor a b) c 1, xor-shr a b 1, xor-shr a (bitXor b c) 1, xor-shr b c 1) in
     omega (arith, xor-add-and (bitXor a b) c, xor-add-and a b, xor-add-and a (bitXor b c), xor-add-and b c)
 
 xor-assoc : (a b c : ℕ) → bitXor (bitXor a b) c ≡ bitXor a (bitXor b c)

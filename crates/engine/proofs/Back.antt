@@ -31,9 +31,11 @@ pub begun : {c : Condition} {count : ℕ} {s : List ℕ} {n : ℕ} → LooksBack
 begun = record { rest = refl }
 
 module _ {c : Condition} {count : ℕ} {s : List ℕ} {n i : ℕ} (l : LooksBack c count s n i) (h : 0 < i) where
-  found : (a b : Bool) → held c (momentAt count s (i - 1)) ≡ a → recovered c (momentAt count s (i - 1)) ≡ b → (a || standing c count s (i - 1) && not b) ≡ standing c count s n
+  found : (a b : Bool) → held c (momentAt count s (i - 1)) ≡ a → recovered c (momentAt count s (i - 1)) ≡ b
+      → (a || standing c count s (i - 1) && not b) ≡ standing c count s n
   found a b e f =
-      rw (sym e, sym f) (sym (ap (stands (held c) (recovered c)) (before count s i h) ∙ stands-next (held c) (recovered c) (momentAt count s (i - 1)) (momentsOf count s (i - 1))) ∙ l .rest)
+      rw (sym e, sym f) (sym (ap (stands (held c) (recovered c)) (before count s i h)
+      ∙ stands-next (held c) (recovered c) (momentAt count s (i - 1)) (momentsOf count s (i - 1))) ∙ l .rest)
 
   pub was-held : {t : Bool} → t ≡ held c (momentAt count s (i - 1)) → t ≡ true → true ≡ standing c count s n
   was-held e f = found true (recovered c (momentAt count s (i - 1))) (sym e ∙ f) refl
@@ -66,10 +68,13 @@ waits-begun {c} {count} {s} {n} =
 module _ {c : Condition} {count : ℕ} {s : List ℕ} {n i : ℕ} (l : WaitsBack c count s n i) where
   module _ (h : 0 < i) {t : Bool} (e : t ≡ held c (momentAt count s (i - 1))) where
     waits-found : (a : Bool) → held c (momentAt count s (i - 1)) ≡ a
-        → any (λ m. ltb (n - i + cond a 0 (suc (ago (held c) (momentsOf count s (i - 1))))) (waitOf m)) (cond a (momentAt count s (i - 1) ∷ []) (newest (held c) (momentsOf count s (i - 1)))) ≡ waits (held c) waitOf (momentsOf count s n)
+        → any (λ m. ltb (n - i + cond a 0 (suc (ago (held c) (momentsOf count s (i - 1))))) (waitOf m))
+        (cond a (momentAt count s (i - 1) ∷ []) (newest (held c) (momentsOf count s (i - 1))))
+        ≡ waits (held c) waitOf (momentsOf count s n)
     waits-found a f = rw (before count s i h, f) at (l .rest)
 
-    pub waits-held : {wait : ℕ} → wait ≡ 10 * (factory .r332) → t ≡ true → ltb (n - (i - 1) - 1) wait ≡ waits (held c) waitOf (momentsOf count s n)
+    pub waits-held : {wait : ℕ} → wait ≡ 10 * (factory .r332) → t ≡ true
+        → ltb (n - (i - 1) - 1) wait ≡ waits (held c) waitOf (momentsOf count s n)
     unfolding momentAt
     waits-held w f =
         let d : n - (i - 1) - 1 ≡ n - i + 0 = omega (arith, l .within) in
@@ -81,12 +86,14 @@ module _ {c : Condition} {count : ℕ} {s : List ℕ} {n i : ℕ} (l : WaitsBack
 
     pub waits-passed : t ≡ false → WaitsBack c count s n (i - 1)
     waits-passed f =
-        let d : n - (i - 1) + ago (held c) (momentsOf count s (i - 1)) ≡ n - i + suc (ago (held c) (momentsOf count s (i - 1))) = omega (arith, l .within) in
+        let d : n - (i - 1) + ago (held c) (momentsOf count s (i - 1)) ≡ n - i + suc (ago (held c) (momentsOf count s (i - 1))) =
+        omega (arith, l .within) in
         record {
           within = omega (arith, l .within);
           rest = ap (λ (gone : ℕ). waiting c gone (momentsOf count s (i - 1))) d ∙ waits-found false (sym e ∙ f);
         }
 
-pub waits-ended : {c : Condition} {count : ℕ} {s : List ℕ} {n i : ℕ} → WaitsBack c count s n i → i ≤ 0 → false ≡ waits (held c) waitOf (momentsOf count s n)
+pub waits-ended : {c : Condition} {count : ℕ} {s : List ℕ} {n i : ℕ} → WaitsBack c count s n i → i ≤ 0
+    → false ≡ waits (held c) waitOf (momentsOf count s n)
 waits-ended {i = zero} l h = l .rest
 waits-ended {i = suc i} l h = absurd (not-suc-le-zero h)

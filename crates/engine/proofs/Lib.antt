@@ -1,3 +1,4 @@
 pub mod Moments
 pub mod Back
 pub mod Stretch
+mod Facts

@@ -1,6 +1,5 @@
--- A tick's record is a part of the records, as far as they go; and what is told of a record, with the lowest and highest of its cells, is told
--- of its moment.
--- Assumes nothing.
+-- A tick's record is a part of the records, as far as they go; and what is told of a record, with the lowest and highest of its cells, is
+-- told of its moment. Assumes nothing.
 use mathlib.Core.Path.{_≡_, sym, ap, ap₂, _∙_}
 use mathlib.Core.List.{List}
 use Prim.Native.Nat.{ℕ, _-_, _+_, min}
@@ -16,7 +15,8 @@ use Rattle.engine.specs.Engine.{recordAt, momentAt}
 module _ {A : Type 0} where
   drop-min : (n : ℕ) (xs : List A) → drop (min n (length xs)) xs ≡ drop n xs
   drop-min n xs =
-      min-cases n (length xs) _ (λ h e. ap (λ k. drop k xs) e) (λ h e. ap (λ k. drop k xs) e ∙ drop-of-length-le xs {i = length xs} (omega arith) ∙ sym (drop-of-length-le xs {i = n} h))
+      min-cases n (length xs) _ (λ h e. ap (λ k. drop k xs) e) (λ h e. ap (λ k. drop k xs) e ∙ drop-of-length-le xs {i = length xs}
+      (omega arith) ∙ sym (drop-of-length-le xs {i = n} h))
 
   -- from n on, and of the given size, as far as the list goes
   pub part : (n size : ℕ) (xs : List A) {from given : ℕ} → from ≡ min n (length xs) → given ≡ min size (length xs - from)

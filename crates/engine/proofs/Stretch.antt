@@ -27,14 +27,19 @@ one true = refl
 one false = refl
 
 seen-first : (m : Moment) → connectedAt m ≡ connectedAtAny (m ∷ [])
-seen-first m = λ i. record { external1 = one (connected (m .readings .external1)) i; external2 = one (connected (m .readings .external2)) i }
+seen-first m =
+    λ i. record { external1 = one (connected (m .readings .external1)) i; external2 = one (connected (m .readings .external2)) i }
 
 seen-next : (m : Moment) (ms : List Moment) → eitherOf (connectedAt m) (connectedAtAny ms) ≡ connectedAtAny (m ∷ ms)
-seen-next m ms = λ i. record { external1 = or (connected (m .readings .external1)) (connectedAtAny ms .external1) i; external2 = or (connected (m .readings .external2)) (connectedAtAny ms .external2) i }
+seen-next m ms = λ i. record {
+  external1 = or (connected (m .readings .external1)) (connectedAtAny ms .external1) i;
+  external2 = or (connected (m .readings .external2)) (connectedAtAny ms .external2) i;
+}
 
 -- ---- one tick more of a stretch that is not empty
 
-more : (m : Moment) (k : ℕ) (ms : List Moment) → 0 < k → k ≤ length ms → unbrokenHot (m ∷ take k ms) ≡ (unbrokenHot (take k ms) && staysHot (connectedAtAny (m ∷ take k ms)) m)
+more : (m : Moment) (k : ℕ) (ms : List Moment) → 0 < k → k ≤ length ms
+    → unbrokenHot (m ∷ take k ms) ≡ (unbrokenHot (take k ms) && staysHot (connectedAtAny (m ∷ take k ms)) m)
 unfolding recoversOf
 more m zero ms h l = absurd (not-suc-le-zero h)
 more m (suc k) [] h l = absurd (not-suc-le-zero l)
@@ -62,7 +67,8 @@ pub begun : {count : ℕ} {s : List ℕ} {j n : ℕ} {seen : Remembered} {unbrok
     → unbroken ≡ holds (momentAt count s j) .ot → Stretch count s j n seen unbroken (j + 1)
 begun {count} {s} {j} h e f =
     let z : j - j ≡ 0 = omega arith in
-    let first : stretch count s j (j + 1) ≡ momentAt count s j ∷ [] = stretch-next count s j j (omega arith) ∙ ap (λ (k : ℕ). momentAt count s j ∷ take k (momentsOf count s j)) z in
+    let first : stretch count s j (j + 1) ≡ momentAt count s j ∷ [] = stretch-next count s j j (omega arith)
+    ∙ ap (λ (k : ℕ). momentAt count s j ∷ take k (momentsOf count s j)) z in
     record {
       within = (omega arith, omega arith);
       memory = e ∙ seen-first (momentAt count s j) ∙ ap connectedAtAny (sym first);
@@ -120,11 +126,15 @@ tries {count} {s} {n} =
     }
 
 module _ {count : ℕ} {s : List ℕ} {n j : ℕ} (g : Tries count s n j) where
-  tried : (b : Bool) → j < n → unbrokenHot (stretch count s j n) ≡ b → some (cond b (stretch count s j n) (longest unbrokenHot (n - (j + 1)) (momentsOf count s n))) ≡ some (sinceHot (momentsOf count s n))
+  tried : (b : Bool) → j < n → unbrokenHot (stretch count s j n) ≡ b
+      → some (cond b (stretch count s j n) (longest unbrokenHot (n - (j + 1)) (momentsOf count s n)))
+      ≡ some (sinceHot (momentsOf count s n))
   tried b h e =
       let d : n - j ≡ suc (n - (j + 1)) = omega arith in
       ap (λ (b : Bool). some (cond b (stretch count s j n) (longest unbrokenHot (n - (j + 1)) (momentsOf count s n)))) (sym e)
-      ∙ ap (λ (k : ℕ). some (cond (unbrokenHot (take k (momentsOf count s n))) (take k (momentsOf count s n)) (longest unbrokenHot (n - (j + 1)) (momentsOf count s n)))) d
+      ∙ ap (λ (k : ℕ).
+      some (cond (unbrokenHot (take k (momentsOf count s n))) (take k (momentsOf count s n))
+      (longest unbrokenHot (n - (j + 1)) (momentsOf count s n)))) d
       ∙ ap (λ (k : ℕ). some (longest unbrokenHot k (momentsOf count s n))) (sym d)
       ∙ g .rest
 

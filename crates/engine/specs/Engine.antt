@@ -1,6 +1,5 @@
--- The ticks of a recording as the history that the account of the guard asks for (W-211 of document 02). The records are the bytes after the
--- opening four; a byte that is missing reads 0. Settings are at the factory.
--- Assumes nothing.
+-- The ticks of a recording as the history that the account of the guard asks for (W-211 of document 02). The records are the bytes after
+-- the opening four; a byte that is missing reads 0. Settings are at the factory. Assumes nothing.
 use mathlib.Core.List.{List, [], _∷_}
 use Prim.Native.Nat.{ℕ, zero, suc, _*_, min}
 use lib.ListN.{take, drop}

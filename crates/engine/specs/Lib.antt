@@ -1,3 +1,2 @@
 pub mod Engine
 pub mod Looks
-mod Facts

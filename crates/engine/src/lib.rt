@@ -15,6 +15,7 @@ use guard::Condition;
 use guard::Conditions;
 use guard::Remembered;
 use guard::Waits;
+use numbers::lesser;
 use record::Record;
 use settings::Settings;
 
@@ -189,7 +190,7 @@ fn record_at(records: &[u8], count: u8, tick: usize) -> Record
     ensures { λ r. ⌜ r ≡ recordAt count (now (records .entry)) tick ⌝ }
 {
     let from = start(records.len(), tick);
-    let end = from + least(48, records.len() - from);
+    let end = from + lesser(48, records.len() - from);
     Record::of(&records[from..end], count)
 }
 
@@ -202,10 +203,4 @@ fn start(length: usize, tick: usize) -> usize
     } else {
         length
     }
-}
-
-fn least(a: usize, b: usize) -> usize
-    ensures { λ r. ⌜ r ≡ min a b ⌝ }
-{
-    if a < b { a } else { b }
 }

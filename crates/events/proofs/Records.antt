@@ -1,6 +1,5 @@
--- Records in an area: put one by one, read by their place, counted up to the first unused one, and copied into the last places; whatever the
--- capacity.
--- Assumes nothing.
+-- Records in an area: put one by one, read by their place, counted up to the first unused one, and copied into the last places; whatever
+-- the capacity. Assumes nothing.
 use mathlib.Core.Path.{_≡_, refl, sym, ap, ap₂, _∙_}
 use mathlib.Core.Bool.{Bool, true, false, _||_, not, cond, or-false, or-assoc}
 use mathlib.Core.List.{List, [], _∷_, _++_, append-assoc, append-nil}
@@ -10,13 +9,22 @@ use native.Mathlib.Numerals.{add-one}
 use native.Mathlib.Omega.{arith}
 use borrow.Author.Tests.{not-true, not-false}
 use lib.Dec.{eqb}
-use lib.ListN.{length, take, drop, getD, set, replicate, length-append, length-drop, length-replicate, replicate-append-replicate, drop-of-length-le, getD-replicate, List·getD-append}
-use lib.Seq.{sets, sets-eq, length-sets, take-suc, take-all, take-at, drop-append-add, drop-drop, drop-cons, getD-append-add, length-take-le, set-at, append-snoc}
+use lib.ListN.{length, take, drop, getD, set, replicate, length-append, length-drop, length-replicate, replicate-append-replicate}
+use lib.ListN.{drop-of-length-le, getD-replicate, List·getD-append}
+use lib.Seq.{sets, sets-eq, length-sets, take-suc, take-all, take-at, drop-append-add, drop-drop, drop-cons, getD-append-add}
+use lib.Seq.{length-take-le, set-at, append-snoc}
 use Rattle.laws.specs.History.{each, any}
+use Rattle.numbers.specs.Numbers.{lowFirstOr, le32, Wrote}
+use Rattle.numbers.proofs.Writing.{in-parts}
+use Rattle.refusals.specs.declared.Refusal.the-variants.{WrongArea, UsedAfterUnused, NeverRecorded}
+use Rattle.refusals.specs.declared.Outcome.the-variants.{Done}
+use Rattle.refusals.specs.Refusals.{first}
 use Rattle.events.specs.declared.Event.{Event}
 use Rattle.events.specs.declared.Events.{Events}
 use Rattle.events.specs.Events.{capacity, noEvent, latest, keptCount, keptOf, placed}
-use Rattle.events.specs.Memory.{areaLength, noArea, neitherArea, recordOf, eventIn, noRecord, used, savedOf, areaOf, saveNumber, Saves, recordedNumbers, isIn, isRecorded, recordsAt, recordsIn, usedOf, parted, strange, recordsNumber, loadNumber, listOf, eventsIn}
+use Rattle.events.specs.Area.{areaLength, noArea, neitherArea, recordOf, noRecord, used, savedOf, areaOf, saveRows, Saves}
+use Rattle.events.specs.Area.{recordedNumbers, isIn, isRecorded, recordsAt, recordsIn, usedOf, parted, neverRecorded, recordRows}
+use Rattle.events.specs.Area.{loadRows, listOf, eventsIn}
 
 -- ---- the records that are saved
 
@@ -57,17 +65,14 @@ pub record Put (rs : List Event) (l₀ : List ℕ) (i : ℕ) (l : List ℕ) : Ty
 pub none-put : {rs : List Event} {l : List ℕ} → Put rs l 0 l
 none-put = record { same = refl; put = refl }
 
--- a record is put byte by byte
-pub four : (l : List ℕ) (at a b c d : ℕ) → set (set (set (set l at a) (at + 1) b) (at + 2) c) (at + 3) d ≡ sets l at (a ∷ b ∷ c ∷ d ∷ [])
-four l at a b c d =
-    let second : at + 1 ≡ suc at = omega arith in
-    let third : at + 2 ≡ suc (suc at) = omega arith in
-    let fourth : at + 3 ≡ suc (suc (suc at)) = omega arith in
-    rw (second, third, fourth) refl
+-- a record is the four bytes of its number
+pub record-bytes : (r : Event) → recordOf r ≡ le32 (r .bytes)
+record-bytes r = in-parts 2 0 2 (r .bytes) refl (omega arith)
 
-pub one-put : {rs : List Event} {l₀ l l₁ : List ℕ} {i : ℕ} {r : Event} → Put rs l₀ i l → i < length rs → length l₀ ≡ 4 * length rs → r ≡ placed rs i → l₁ ≡ sets l (4 * i) (recordOf r)
-    → Put rs l₀ (i + 1) l₁
-one-put {rs} {l₀} {l} {l₁} {i} {r} p h k q w =
+pub one-put : {rs : List Event} {l₀ l l₁ : List ℕ} {i : ℕ} {r : Event} → Put rs l₀ i l → i < length rs → length l₀ ≡ 4 * length rs
+    → r ≡ placed rs i → Wrote l (4 * i) (le32 (r .bytes)) l₁ → Put rs l₀ (i + 1) l₁
+one-put {rs} {l₀} {l} {l₁} {i} {r} p h k q put =
+    let w : l₁ ≡ sets l (4 * i) (recordOf r) = put .wrote ∙ ap (sets l (4 * i)) (sym (record-bytes r)) in
     let front = each recordOf (take i rs) in
     let t : length (take i rs) ≡ i = length-take-le i rs (omega arith) in
     let f : length front ≡ 4 * i = length-each (take i rs) ∙ ap (λ (n : ℕ). 4 * n) t in
@@ -80,20 +85,25 @@ one-put {rs} {l₀} {l} {l₁} {i} {r} p h k q w =
           ∙ ap (λ (y : List ℕ). sets y (4 * i) x) (p .put)
           ∙ sets-eq x (front ++ drop (4 * i) l₀) (4 * i) (omega arith)
           ∙ ap₂ (λ (a b : List ℕ). a ++ x ++ b) (take-at front (drop (4 * i) l₀) (4 * i) f)
-          (ap (λ (n : ℕ). drop (n + 4) (front ++ drop (4 * i) l₀)) (sym f) ∙ drop-append-add front (drop (4 * i) l₀) 4 ∙ drop-drop 4 (4 * i) l₀)
+          (ap (λ (n : ℕ). drop (n + 4) (front ++ drop (4 * i) l₀)) (sym f) ∙ drop-append-add front (drop (4 * i) l₀) 4
+          ∙ drop-drop 4 (4 * i) l₀)
           ∙ ap₂ (λ (a : List ℕ) (n : ℕ). a ++ drop n l₀)
-          (ap (λ (r : Event). front ++ recordOf r) q ∙ sym (ap (λ (n : ℕ). each recordOf (take n rs)) (add-one i) ∙ ap (each recordOf) (take-suc rs i noEvent h) ∙ each-more (take i rs) (placed rs i)))
+          (ap (λ (r : Event). front ++ recordOf r) q
+          ∙ sym (ap (λ (n : ℕ). each recordOf (take n rs)) (add-one i) ∙ ap (each recordOf) (take-suc rs i noEvent h)
+          ∙ each-more (take i rs) (placed rs i)))
           (let n : 4 * i + 4 ≡ 4 * (i + 1) = omega arith in n);
     }
 
-pub all-put : {e : Events} {l₀ l : List ℕ} {i : ℕ} → Put (savedOf e) l₀ i l → length (savedOf e) ≡ capacity → length l₀ ≡ areaLength → i ≡ capacity → Saves e l₀ 0 l
-unfolding areaOf
+pub all-put : {e : Events} {l₀ l : List ℕ} {i : ℕ} → Put (savedOf e) l₀ i l → length (savedOf e) ≡ capacity → length l₀ ≡ areaLength
+    → i ≡ capacity → Saves e l₀ Done l
+unfolding areaOf first
 all-put {e} {l₀} {l} {i} p m k h =
     record {
-      number-is = ap saveNumber (sym k);
+      outcome-is = ap (λ (n : ℕ). first (saveRows n)) (sym k);
       area =
           p .put
-          ∙ ap₂ (λ (a : List Event) (b : List ℕ). each recordOf a ++ b) (take-all i (savedOf e) (omega arith)) (drop-of-length-le l₀ {i = 4 * i} (omega arith))
+          ∙ ap₂ (λ (a : List Event) (b : List ℕ). each recordOf a ++ b) (take-all i (savedOf e) (omega arith))
+          (drop-of-length-le l₀ {i = 4 * i} (omega arith))
           ∙ append-nil (areaOf e)
           ∙ ap (λ (n : ℕ). cond (noArea n) l₀ (areaOf e)) (sym k);
     }
@@ -101,8 +111,8 @@ all-put {e} {l₀} {l} {i} p m k h =
 -- ---- records read by their place
 
 module _ (area : List ℕ) where
-  abbrev pub recordAt : ℕ → Event
-  recordAt at = eventIn (getD area at 0xFF) (getD area (at + 1) 0xFF) (getD area (at + 2) 0xFF) (getD area (at + 3) 0xFF)
+  abbrev recordAt : ℕ → Event
+  recordAt at = record { bytes = lowFirstOr 0xFF 4 area at }
 
   length-at : (at n : ℕ) → length (recordsAt area at n) ≡ n
   length-at at zero = refl
@@ -111,27 +121,18 @@ module _ (area : List ℕ) where
   at-place : (at n i : ℕ) → i < n → placed (recordsAt area at n) i ≡ recordAt (at + 4 * i)
   at-place at zero i h = absurd (not-suc-le-zero h)
   at-place at (suc n) zero h = ap recordAt (let e : at ≡ at + 4 * 0 = omega arith in e)
-  at-place at (suc n) (suc i) h = at-place (at + 4) n i (omega arith) ∙ ap recordAt (let e : at + 4 + 4 * i ≡ at + 4 * suc i = omega arith in e)
+  at-place at (suc n) (suc i) h =
+      at-place (at + 4) n i (omega arith) ∙ ap recordAt (let e : at + 4 + 4 * i ≡ at + 4 * suc i = omega arith in e)
 
   pub length-in : length (recordsIn area) ≡ capacity
   unfolding recordsIn
   length-in = length-at 0 capacity
 
-  pub in-place : (i : ℕ) → i < capacity → placed (recordsIn area) i ≡ recordAt (4 * i)
+  pub read : {i n : ℕ} → i < capacity → n ≡ lowFirstOr 0xFF 4 area (4 * i)
+      → _≡_ {A = Event} (record { bytes = n }) (placed (recordsIn area) i)
   unfolding recordsIn
-  in-place i h = at-place 0 capacity i h ∙ ap recordAt (let e : 0 + 4 * i ≡ 4 * i = omega arith in e)
-
-  pub read : {i a b c d : ℕ} → i < capacity → a ≡ getD area (4 * i) 0xFF → b ≡ getD area (4 * i + 1) 0xFF → c ≡ getD area (4 * i + 2) 0xFF → d ≡ getD area (4 * i + 3) 0xFF
-      → _≡_ {A = Event} (record { bytes = a + 256 * b + 65536 * (c + 256 * d) }) (placed (recordsIn area) i)
-  read {i} {a} {b} {c} {d} h p q r s =
-      let e : a + 256 * b + 65536 * (c + 256 * d) ≡ recordAt (4 * i) .bytes = omega arith in
-      (λ k. record { bytes = e k }) ∙ sym (in-place i h)
-
--- within the list the default is not met
-pub in-list : (l : List ℕ) (i d d′ : ℕ) → i < length l → getD l i d ≡ getD l i d′
-in-list [] i d d′ h = absurd (not-suc-le-zero h)
-in-list (x ∷ l) zero d d′ h = refl
-in-list (x ∷ l) (suc i) d d′ h = in-list l i d d′ (omega arith)
+  read {i} {n} h e =
+      (λ j. record { bytes = e j }) ∙ sym (at-place 0 capacity i h ∙ ap recordAt (let z : 0 + 4 * i ≡ 4 * i = omega arith in z))
 
 -- ---- the numbers that are recorded: one test for each
 
@@ -158,7 +159,8 @@ pub none-used : {rs : List Event} → Used rs 0
 none-used {rs} = record { so-far = sym (zero-add (length (usedOf rs))) }
 
 -- where `t` says of the record r at the place whether it is used
-pub one-used : {rs : List Event} {i : ℕ} {r : Event} {t : Bool} → Used rs i → i < length rs → r ≡ placed rs i → t ≡ used r → not t ≡ false → Used rs (i + 1)
+pub one-used : {rs : List Event} {i : ℕ} {r : Event} {t : Bool} → Used rs i → i < length rs → r ≡ placed rs i → t ≡ used r → not t ≡ false
+    → Used rs (i + 1)
 unfolding usedOf
 one-used {rs} {i} {r} {t} u h q k e =
     let m = u .so-far ∙ ap (λ (l : List Event). i + length (usedOf l)) (drop-cons rs i noEvent h) in
@@ -166,7 +168,8 @@ one-used {rs} {i} {r} {t} u h q k e =
     record { so-far = m ∙ n ∙ ap (λ (k : ℕ). i + suc (length (usedOf (drop k rs)))) (sym (add-one i)) ∙ omega arith }
 
 -- an unused one ends them, and so does the end
-pub ended-used : {rs : List Event} {i : ℕ} {r : Event} {t : Bool} → Used rs i → i < length rs → r ≡ placed rs i → t ≡ used r → not t ≡ true → i ≡ length (usedOf rs)
+pub ended-used : {rs : List Event} {i : ℕ} {r : Event} {t : Bool} → Used rs i → i < length rs → r ≡ placed rs i → t ≡ used r → not t ≡ true
+    → i ≡ length (usedOf rs)
 unfolding usedOf
 ended-used {rs} {i} {r} {t} u h q k e =
     let m = u .so-far ∙ ap (λ (l : List Event). i + length (usedOf l)) (drop-cons rs i noEvent h) in
@@ -175,7 +178,8 @@ ended-used {rs} {i} {r} {t} u h q k e =
 
 pub all-used : {rs : List Event} {i : ℕ} → Used rs i → i ≡ length rs → i ≡ length (usedOf rs)
 unfolding usedOf
-all-used {rs} {i} u h = sym (u .so-far ∙ ap (λ (l : List Event). i + length (usedOf l)) (drop-of-length-le rs {i = i} (omega arith)) ∙ add-zero i)
+all-used {rs} {i} u h = sym (u .so-far ∙ ap (λ (l : List Event). i + length (usedOf l)) (drop-of-length-le rs {i = i} (omega arith))
+    ∙ add-zero i)
 
 -- they are the first, and a used one after them is after an unused one
 pub used-first : (rs : List Event) → take (length (usedOf rs)) rs ≡ usedOf rs
@@ -183,7 +187,8 @@ unfolding usedOf
 used-first [] = refl
 used-first (r ∷ rs) = go (used r) (used-first rs)
   where
-    go : (t : Bool) → take (length (usedOf rs)) rs ≡ usedOf rs → take (length (cond t (r ∷ usedOf rs) [])) (r ∷ rs) ≡ cond t (r ∷ usedOf rs) []
+    go : (t : Bool) → take (length (usedOf rs)) rs ≡ usedOf rs
+        → take (length (cond t (r ∷ usedOf rs) [])) (r ∷ rs) ≡ cond t (r ∷ usedOf rs) []
     go true e = ap (λ (l : List Event). r ∷ l) e
     go false e = refl
 
@@ -211,11 +216,13 @@ module _ (p : Event → Bool) where
   here rs i h = ap (any p) (drop-cons rs i noEvent h) ∙ ap (λ (n : ℕ). cond (p (placed rs i)) true (any p (drop n rs))) (sym (add-one i))
 
   -- where `t` says of the record r at the place whether it passes
-  pub not-here : {rs : List Event} {from i : ℕ} {r : Event} {t : Bool} → Without rs from i → i < length rs → r ≡ placed rs i → t ≡ p r → t ≡ false → Without rs from (i + 1)
+  pub not-here : {rs : List Event} {from i : ℕ} {r : Event} {t : Bool} → Without rs from i → i < length rs → r ≡ placed rs i → t ≡ p r
+      → t ≡ false → Without rs from (i + 1)
   not-here {rs} {from} {i} w h q k e =
       record { so-far = w .so-far ∙ here rs i h ∙ ap (λ (t : Bool). cond t true (any p (drop (i + 1) rs))) (ap p (sym q) ∙ sym k ∙ e) }
 
-  pub found : {rs : List Event} {from i : ℕ} {r : Event} {t : Bool} → Without rs from i → i < length rs → r ≡ placed rs i → t ≡ p r → t ≡ true → true ≡ any p (drop from rs)
+  pub found : {rs : List Event} {from i : ℕ} {r : Event} {t : Bool} → Without rs from i → i < length rs → r ≡ placed rs i → t ≡ p r
+      → t ≡ true → true ≡ any p (drop from rs)
   found {rs} {from} {i} w h q k e =
       sym (w .so-far ∙ here rs i h ∙ ap (λ (t : Bool). cond t true (any p (drop (i + 1) rs))) (ap p (sym q) ∙ sym k ∙ e))
 
@@ -239,7 +246,8 @@ module _ {A : Type 0} (z : A) where
             ∙ ap (λ (l : List A). l ++ replicate (count - 0) z) (sym (append-nil (replicate before z)));
       }
 
-  pub one-last : {before count i to : ℕ} {v : A} {xs l : List A} → Last before count xs i l → i < count → count ≤ length xs → to ≡ before + i → v ≡ getD xs i z → Last before count xs (i + 1) (set l to v)
+  pub one-last : {before count i to : ℕ} {v : A} {xs l : List A} → Last before count xs i l → i < count → count ≤ length xs
+      → to ≡ before + i → v ≡ getD xs i z → Last before count xs (i + 1) (set l to v)
   one-last {before} {count} {i} {to} {v} {xs} {l} c h k e q =
       let front = replicate before z ++ take i xs in
       let rest = replicate (count - (i + 1)) z in
@@ -253,7 +261,8 @@ module _ {A : Type 0} (z : A) where
             ∙ ap (λ (x : A). front ++ x ∷ rest) q
             ∙ sym (append-snoc front (getD xs i z) rest)
             ∙ ap (λ (y : List A). y ++ rest) (append-assoc (replicate before z) (take i xs) (getD xs i z ∷ []))
-            ∙ ap (λ (y : List A). replicate before z ++ y ++ rest) (sym (ap (λ (k : ℕ). take k xs) (add-one i) ∙ take-suc xs i z (omega arith)));
+            ∙ ap (λ (y : List A). replicate before z ++ y ++ rest) (sym (ap (λ (k : ℕ). take k xs) (add-one i)
+            ∙ take-suc xs i z (omega arith)));
       }
 
   pub all-last : {before count i : ℕ} {xs l : List A} → Last before count xs i l → i ≡ count → l ≡ replicate before z ++ take count xs
@@ -264,17 +273,19 @@ module _ {A : Type 0} (z : A) where
 -- ---- what a load gives
 
 module _ (area : List ℕ) where
-  pub numbered : neitherArea (length area) ≡ false → loadNumber area ≡ recordsNumber (recordsIn area)
-  unfolding loadNumber
-  numbered k = ap (λ (t : Bool). cond t 31 (recordsNumber (recordsIn area))) k
+  -- where the length is that of an area the records decide
+  pub by-records : neitherArea (length area) ≡ false → first (loadRows area) ≡ first (recordRows (recordsIn area))
+  unfolding loadRows first
+  by-records k = ap (λ (t : Bool). first ((WrongArea, t) ∷ recordRows (recordsIn area))) k
 
-  pub judged : {count : ℕ} {t u : Bool} → count ≡ length (eventsIn area) → t ≡ any used (drop count (recordsIn area)) → u ≡ any strange (recordsIn area)
-      → recordsNumber (recordsIn area) ≡ cond t 32 (cond u 33 0)
-  judged p q r =
-      ap₂ (λ (t u : Bool). cond t 32 (cond u 33 0))
+  pub decided : {count : ℕ} {t u : Bool} → count ≡ length (eventsIn area) → t ≡ any used (drop count (recordsIn area))
+      → u ≡ any neverRecorded (recordsIn area) → recordRows (recordsIn area) ≡ (UsedAfterUnused, t) ∷ (NeverRecorded, u) ∷ []
+  decided p q r =
+      ap₂ (λ (t u : Bool). (UsedAfterUnused, t) ∷ (NeverRecorded, u) ∷ [])
       (parted-after (recordsIn area) ∙ ap (λ (n : ℕ). any used (drop n (recordsIn area))) (sym p) ∙ sym q) (sym r)
 
-  pub listed : {count i : ℕ} {l : List Event} → Last noEvent (capacity - count) count (recordsIn area) i l → i ≡ count → count ≡ length (eventsIn area)
+  pub listed : {count i : ℕ} {l : List Event} → Last noEvent (capacity - count) count (recordsIn area) i l → i ≡ count
+      → count ≡ length (eventsIn area)
       → _≡_ {A = Events} (record { list = l; kept = count; unsent = 0 }) (listOf (eventsIn area))
   listed {count} {i} {l} c h k =
       let first : take count (recordsIn area) ≡ eventsIn area = ap (λ (n : ℕ). take n (recordsIn area)) k ∙ used-first (recordsIn area) in

@@ -1,7 +1,6 @@
--- A save followed by a load gives the same list with everything marked as sent, if the kept events have numbers that the board records; and a load
--- followed by a save gives the area back. Whatever the capacity.
--- An old area loads as the area it makes with unused records after it, and what was saved into it is loaded; of any capacity from 48 on.
--- Assumes nothing.
+-- A save followed by a load gives the same list with everything marked as sent, if the kept events have numbers that the board records; and
+-- a load followed by a save gives the area back. Whatever the capacity. An old area loads as the area it makes with unused records after
+-- it, and what was saved into it is loaded; of any capacity from 48 on. Assumes nothing.
 use mathlib.Core.Path.{_≡_, refl, sym, ap, ap₂, _∙_, subst⁻¹}
 use mathlib.Core.Bool.{Bool, true, false, _&&_, not, cond, false≢true}
 use mathlib.Core.List.{List, [], _∷_, _++_, append-assoc, append-nil}
@@ -10,36 +9,26 @@ use native.Mathlib.Omega.{arith}
 use native.Mathlib.Nat.{zero-add, add-zero, sub-zero, suc-sub-suc}
 use borrow.Author.Tests.{eqb-true}
 use lib.Dec.{eqb}
-use lib.ListN.{length, drop, getD, replicate, length-append, length-replicate, replicate-append-replicate, length-take, drop-of-length-le}
-use lib.Seq.{drop-cons, drop-at, getD-append-add}
+use lib.ListN.{length, take, drop, getD, replicate, length-append, length-replicate, replicate-append-replicate, length-take}
+use lib.ListN.{take-append-drop, drop-of-length-le}
+use lib.Seq.{drop-at, drop-drop}
 use Rattle.laws.specs.History.{each, any}
+use Rattle.numbers.specs.Numbers.{lowFirstOr}
+use Rattle.numbers.proofs.ReadBack.{stands, writes-back}
+use Rattle.refusals.specs.declared.Refusal.the-variants.{WrongArea, UsedAfterUnused, NeverRecorded}
+use Rattle.refusals.specs.declared.Outcome.{Outcome}
+use Rattle.refusals.specs.declared.Outcome.the-variants.{Done}
+use Rattle.refusals.specs.Refusals.{isDone, first}
+use Rattle.refusals.proofs.Rows.{off}
 use Rattle.events.specs.declared.Event.{Event}
 use Rattle.events.specs.declared.Events.{Events}
-use Rattle.events.specs.Events.{capacity, noEvent, latest, keptOf, newOf}
-use Rattle.events.specs.Memory.{areaLength, oldLength, neitherArea, recordOf, eventIn, noRecord, used, savedOf, areaOf, recordsAt, recordsIn, usedOf, parted, isRecorded, neverRecorded, strange, recordsNumber, loadNumber, listOf, eventsIn, loadOf}
-use Rattle.events.proofs.Records.{length-kept, length-saved, length-each, length-in, used-first, numbered}
-
--- ---- a record and its four bytes
+use Rattle.events.specs.Events.{capacity, numberOf, noEvent, latest, keptOf, newOf}
+use Rattle.events.specs.Area.{areaLength, oldLength, neitherArea, recordOf, noRecord, used, savedOf, areaOf, recordsAt, recordsIn}
+use Rattle.events.specs.Area.{usedOf, parted, isRecorded, neverRecorded, recordRows, loadRows, listOf, eventsIn, loadOf}
+use Rattle.events.proofs.Records.{length-kept, length-saved, length-each, length-in, record-bytes, used-first, by-records}
 
 same-event : {a b : ℕ} → a ≡ b → _≡_ {A = Event} (record { bytes = a }) (record { bytes = b })
 same-event e = λ i. record { bytes = e i }
-
-record-back : (r : Event) → eventIn (r .bytes % 16777216 % 256) (r .bytes % 16777216 / 256 % 256) (r .bytes % 16777216 / 65536) (r .bytes / 16777216) ≡ r
-record-back r = same-event (omega arith)
-
-low-byte : (a x : ℕ) → a < 256 → ((a + 256 * x) % 256 ≡ a) × ((a + 256 * x) / 256 ≡ x)
-low-byte a x h = (omega arith, omega arith)
-
-bytes-back : (a b c d : ℕ) → a < 256 → b < 256 → c < 256 → d < 256 → recordOf (eventIn a b c d) ≡ a ∷ b ∷ c ∷ d ∷ []
-bytes-back a b c d h i j k =
-    let n = a + 256 * b + 65536 * c + 16777216 * d in
-    let t : n % 16777216 ≡ a + 256 * (b + 256 * c) = omega arith in
-    let u : n % 16777216 / 256 ≡ b + 256 * c = ap (λ (m : ℕ). m / 256) t ∙ low-byte a (b + 256 * c) h .1 in
-    let p : n % 16777216 % 256 ≡ a = ap (λ (m : ℕ). m % 256) t ∙ low-byte a (b + 256 * c) h .0 in
-    let q : n % 16777216 / 256 % 256 ≡ b = ap (λ (m : ℕ). m % 256) u ∙ low-byte b c i .0 in
-    let r : n % 16777216 / 65536 ≡ c = omega arith in
-    let s : n / 16777216 ≡ d = omega arith in
-    λ i. p i ∷ q i ∷ r i ∷ s i ∷ []
 
 -- ---- records and their area
 
@@ -47,15 +36,13 @@ bytes-back a b c d h i j k =
 read-behind : (p : List ℕ) (rs : List Event) → recordsAt (p ++ each recordOf rs) (length p) (length rs) ≡ rs
 read-behind p [] = refl
 read-behind p (r ∷ rs) =
-    let s = recordOf r ++ each recordOf rs in
-    let byte : (k : ℕ) → getD (p ++ s) (length p + k) 0xFF ≡ getD s k 0xFF = λ k. getD-append-add p s k 0xFF in
-    let first : getD (p ++ s) (length p) 0xFF ≡ getD s 0 0xFF = ap (λ (n : ℕ). getD (p ++ s) n 0xFF) (sym (add-zero (length p))) ∙ byte 0 in
-    let here : eventIn (getD (p ++ s) (length p) 0xFF) (getD (p ++ s) (length p + 1) 0xFF) (getD (p ++ s) (length p + 2) 0xFF) (getD (p ++ s) (length p + 3) 0xFF) ≡ r =
-    (λ i. eventIn (first i) (byte 1 i) (byte 2 i) (byte 3 i)) ∙ record-back r in
-    let there : recordsAt (p ++ s) (length p + 4) (length rs) ≡ rs =
-    ap₂ (λ (l : List ℕ) (n : ℕ). recordsAt l n (length rs)) (sym (append-assoc p (recordOf r) (each recordOf rs))) (sym (length-append p (recordOf r)))
+    let rest = each recordOf rs in
+    let here = ap (λ (l : List ℕ). lowFirstOr 0xFF 4 (p ++ (l ++ rest)) (length p)) (record-bytes r)
+    ∙ stands 0xFF 3 (r .bytes) p rest (length p) refl in
+    let there : recordsAt (p ++ (recordOf r ++ rest)) (length p + 4) (length rs) ≡ rs =
+    ap₂ (λ (l : List ℕ) (n : ℕ). recordsAt l n (length rs)) (sym (append-assoc p (recordOf r) rest)) (sym (length-append p (recordOf r)))
     ∙ read-behind (p ++ recordOf r) rs in
-    ap₂ {C = List Event} _∷_ here there
+    ap₂ {C = List Event} _∷_ (same-event here) there
 
 pub records-back : (rs : List Event) → length rs ≡ capacity → recordsIn (each recordOf rs) ≡ rs
 unfolding recordsIn
@@ -77,7 +64,9 @@ same-records : (area : List ℕ) (n at k : ℕ) → recordsAt (area ++ replicate
 same-records area n at zero = refl
 same-records area n at (suc k) =
     let byte = same-byte area n in
-    λ i. eventIn (byte at i) (byte (at + 1) i) (byte (at + 2) i) (byte (at + 3) i) ∷ same-records area n (at + 4) k i
+    let number : lowFirstOr 0xFF 4 (area ++ replicate n 0xFF) at ≡ lowFirstOr 0xFF 4 area at =
+    λ i. byte at i + 256 * byte (at + 1) i + 65536 * byte (at + 2) i + 16777216 * byte (at + 3) i in
+    ap₂ {C = List Event} _∷_ (same-event number) (same-records area n (at + 4) k)
 
 -- bytes 0xFF after an area change no record of it
 pub unused-after : (area : List ℕ) (n : ℕ) → recordsIn (area ++ replicate n 0xFF) ≡ recordsIn area
@@ -92,7 +81,8 @@ each-unused (suc m) =
 
 each-append : (rs ss : List Event) → each recordOf (rs ++ ss) ≡ each recordOf rs ++ each recordOf ss
 each-append [] ss = refl
-each-append (r ∷ rs) ss = ap (λ (l : List ℕ). recordOf r ++ l) (each-append rs ss) ∙ sym (append-assoc (recordOf r) (each recordOf rs) (each recordOf ss))
+each-append (r ∷ rs) ss = ap (λ (l : List ℕ). recordOf r ++ l) (each-append rs ss)
+    ∙ sym (append-assoc (recordOf r) (each recordOf rs) (each recordOf ss))
 
 -- fewer records than places are read as themselves and unused ones
 pub few-back : (rs : List Event) (n : ℕ) → length rs + n ≡ capacity → recordsIn (each recordOf rs) ≡ rs ++ replicate n noRecord
@@ -108,19 +98,14 @@ few-back rs n h =
 abbrev pub Bytes : List ℕ → Type 0
 Bytes area = (i : ℕ) → getD area i 0xFF < 256
 
-first-of : (l : List ℕ) (at to : ℕ) → at < length l → to ≡ suc at → drop at l ≡ getD l at 0xFF ∷ drop to l
-first-of l at to h e = drop-cons l at 0xFF h ∙ ap (λ (n : ℕ). getD l at 0xFF ∷ drop n l) (sym e)
-
 each-back : (area : List ℕ) → Bytes area → (at n : ℕ) → length area ≡ at + 4 * n → each recordOf (recordsAt area at n) ≡ drop at area
 each-back area b at zero h = sym (drop-of-length-le area {i = at} (omega arith))
 each-back area b at (suc n) h =
-    let i = each-back area b (at + 4) n (omega arith) in
-    let one = first-of area at (at + 1) (omega arith) (omega arith) in
-    let two = first-of area (at + 1) (at + 2) (omega arith) (omega arith) in
-    let three = first-of area (at + 2) (at + 3) (omega arith) (omega arith) in
-    let four = first-of area (at + 3) (at + 4) (omega arith) (omega arith) in
-    ap₂ {C = List ℕ} (λ (x y : List ℕ). x ++ y) (bytes-back (getD area at 0xFF) (getD area (at + 1) 0xFF) (getD area (at + 2) 0xFF) (getD area (at + 3) 0xFF) (b at) (b (at + 1)) (b (at + 2)) (b (at + 3))) i
-    ∙ sym (one ∙ ap (λ (l : List ℕ). getD area at 0xFF ∷ l) (two ∙ ap (λ (l : List ℕ). getD area (at + 1) 0xFF ∷ l) (three ∙ ap (λ (l : List ℕ). getD area (at + 2) 0xFF ∷ l) four)))
+    let n₀ = lowFirstOr 0xFF 4 area at in
+    let here : recordOf (record { bytes = n₀ }) ≡ take 4 (drop at area) =
+    record-bytes (record { bytes = n₀ }) ∙ writes-back 0xFF 3 area at b (omega arith) in
+    ap₂ {C = List ℕ} (λ (x y : List ℕ). x ++ y) here (each-back area b (at + 4) n (omega arith) ∙ sym (drop-drop 4 at area))
+    ∙ take-append-drop 4 (drop at area)
 
 pub area-back : (area : List ℕ) → Bytes area → length area ≡ areaLength → each recordOf (recordsIn area) ≡ area
 unfolding recordsIn
@@ -133,13 +118,17 @@ neither : (t u : Bool) → cond t true u ≡ false → (t ≡ false) × (u ≡ f
 neither true u e = absurd (false≢true (sym e))
 neither false u e = (refl, e)
 
+-- an event with a number that the board never records, used or not
+abbrev pub unrecorded : Event → Bool
+unrecorded e = not (isRecorded (numberOf e))
+
 -- a number that the board records is none of an unused record
-is-used : (e : Event) → neverRecorded e ≡ false → used e ≡ true
+is-used : (e : Event) → unrecorded e ≡ false → used e ≡ true
 unfolding isRecorded
 is-used e h = go (eqb (e .bytes) (noRecord .bytes)) refl
   where
     go : (t : Bool) → eqb (e .bytes) (noRecord .bytes) ≡ t → not t ≡ true
-    go true q = absurd (false≢true (sym h ∙ ap (λ (n : ℕ). neverRecorded (record { bytes = n })) (eqb-true (e .bytes) (noRecord .bytes) q)))
+    go true q = absurd (false≢true (sym h ∙ ap (λ (n : ℕ). unrecorded (record { bytes = n })) (eqb-true (e .bytes) (noRecord .bytes) q)))
     go false q = refl
 
 none-used : (m : ℕ) → any used (replicate m noRecord) ≡ false
@@ -148,24 +137,24 @@ none-used (suc m) = none-used m
 
 -- what a load makes of records
 abbrev Reads : List Event → List Event → Type 0
-Reads rs ks = (usedOf rs ≡ ks) × (parted rs ≡ false) × (any strange rs ≡ false)
+Reads rs ks = (usedOf rs ≡ ks) × (parted rs ≡ false) × (any neverRecorded rs ≡ false)
 
 unused-read : (m : ℕ) → Reads (replicate m noRecord) []
 unfolding usedOf parted
 unused-read zero = (refl, refl, refl)
 unused-read (suc m) = (refl, none-used m, unused-read m .2)
 
-kept-read : (m : ℕ) (ks : List Event) → any neverRecorded ks ≡ false → Reads (ks ++ replicate m noRecord) ks
+kept-read : (m : ℕ) (ks : List Event) → any unrecorded ks ≡ false → Reads (ks ++ replicate m noRecord) ks
 unfolding usedOf parted
 kept-read m [] h = unused-read m
 kept-read m (k ∷ ks) h =
-    let (known, others) = neither (neverRecorded k) (any neverRecorded ks) h in
+    let (known, others) = neither (unrecorded k) (any unrecorded ks) h in
     let (read, whole, ours) = kept-read m ks others in
     let rs = ks ++ replicate m noRecord in
     let kept = is-used k known in (
       ap₂ (λ (t : Bool) (es : List Event). cond t (k ∷ es) []) kept read,
       ap₂ (λ (t u : Bool). cond t u (any used rs)) kept whole,
-      ap₂ (λ (t u : Bool). cond (t && u) true (any strange rs)) kept known ∙ ours,
+      ap₂ (λ (t u : Bool). cond (t && u) true (any neverRecorded rs)) kept known ∙ ours,
     )
 
 -- a record that is not used is all 0xFF
@@ -191,23 +180,29 @@ unused-rest (r ∷ rs) h = go (used r) refl h (unused-rest rs)
     go : (t : Bool) → used r ≡ t → cond t (parted rs) (any used rs) ≡ false
         → (parted rs ≡ false → usedOf rs ++ replicate (length rs - length (usedOf rs)) noRecord ≡ rs)
         → cond t (r ∷ usedOf rs) [] ++ replicate (suc (length rs) - length (cond t (r ∷ usedOf rs) [])) noRecord ≡ r ∷ rs
-    go true e h i = ap (λ (n : ℕ). r ∷ usedOf rs ++ replicate n noRecord) (suc-sub-suc (length rs) (length (usedOf rs))) ∙ ap (λ (l : List Event). r ∷ l) (i h)
-    go false e h i = ap (λ (n : ℕ). replicate n noRecord) (sub-zero (suc (length rs))) ∙ sym (ap₂ {C = List Event} _∷_ (unused r e) (all-unused rs h))
+    go true e h i = ap (λ (n : ℕ). r ∷ usedOf rs ++ replicate n noRecord) (suc-sub-suc (length rs) (length (usedOf rs)))
+        ∙ ap (λ (l : List Event). r ∷ l) (i h)
+    go false e h i = ap (λ (n : ℕ). replicate n noRecord) (sub-zero (suc (length rs)))
+        ∙ sym (ap₂ {C = List Event} _∷_ (unused r e) (all-unused rs h))
 
 -- ---- a list in the last places
 
 module _ (es : List Event) (few : length es ≤ capacity) where
   pub listed-kept : keptOf (listOf es) ≡ es
   unfolding latest
-  listed-kept = drop-at (replicate (capacity - length es) noEvent) es (capacity - min capacity (length es)) (length-replicate (capacity - length es) noEvent ∙ omega arith)
+  listed-kept =
+      drop-at (replicate (capacity - length es) noEvent) es (capacity - min capacity (length es))
+      (length-replicate (capacity - length es) noEvent ∙ omega arith)
 
   pub listed-new : newOf (listOf es) ≡ []
   unfolding latest
-  listed-new = drop-of-length-le (listOf es .list) {i = capacity - min (min capacity (length es)) 0} (simp (length-append, length-replicate) (omega arith))
+  listed-new =
+      drop-of-length-le (listOf es .list) {i = capacity - min (min capacity (length es)) 0}
+      (simp (length-append, length-replicate) (omega arith))
 
 -- ---- records of known numbers and unused ones behind them, as many as an area has, load as that list
 
-module _ (ks : List Event) (m : ℕ) (few : length ks + m ≤ capacity) (recorded : any neverRecorded ks ≡ false) where
+module _ (ks : List Event) (m : ℕ) (few : length ks + m ≤ capacity) (recorded : any unrecorded ks ≡ false) where
   abbrev bytes : List ℕ
   bytes = each recordOf (ks ++ replicate m noRecord)
 
@@ -221,25 +216,27 @@ module _ (ks : List Event) (m : ℕ) (few : length ks + m ≤ capacity) (recorde
   read : Reads (recordsIn bytes) ks
   read = subst⁻¹ (λ (rs : List Event). Reads rs ks) records (kept-read (m + (capacity - (length ks + m))) ks recorded)
 
-  read-number : neitherArea (length bytes) ≡ false → loadNumber bytes ≡ 0
-  read-number h = numbered bytes h ∙ ap₂ (λ (t u : Bool). cond t 32 (cond u 33 0)) (read .1) (read .2)
+  done : neitherArea (length bytes) ≡ false → first (loadRows bytes) ≡ Done
+  unfolding first
+  done h = by-records bytes h ∙ ap₂ (λ (t u : Bool). first ((UsedAfterUnused, t) ∷ (NeverRecorded, u) ∷ [])) (read .1) (read .2)
 
   -- the same list, and nothing is new, whatever list it replaces
-  pub loads : neitherArea (length bytes) ≡ false → (f : Events) → loadOf f bytes ≡ record { number = 0; events = listOf ks }
+  pub loads : neitherArea (length bytes) ≡ false → (f : Events) → loadOf f bytes ≡ record { outcome = Done; events = listOf ks }
   unfolding loadOf
-  loads h f = rw (read-number h, read .0)
+  loads h f = rw (done h, read .0)
 
 -- ---- a save followed by a load
 
-module _ (e : Events) (long : length (e .list) ≡ capacity) (recorded : any neverRecorded (keptOf e) ≡ false) where
+module _ (e : Events) (long : length (e .list) ≡ capacity) (recorded : any unrecorded (keptOf e) ≡ false) where
   pub length-area : length (areaOf e) ≡ areaLength
   unfolding areaOf
   length-area = length-each (savedOf e) ∙ ap (λ (n : ℕ). 4 * n) (length-saved e long)
 
   -- the same list, and nothing is new, whatever list it replaces
-  pub save-load : (f : Events) → loadOf f (areaOf e) ≡ record { number = 0; events = listOf (keptOf e) }
+  pub save-load : (f : Events) → loadOf f (areaOf e) ≡ record { outcome = Done; events = listOf (keptOf e) }
   unfolding areaOf
-  save-load f = let n = length-kept e long in loads (keptOf e) (capacity - length (keptOf e)) (omega arith) recorded (ap neitherArea length-area) f
+  save-load f =
+      let n = length-kept e long in loads (keptOf e) (capacity - length (keptOf e)) (omega arith) recorded (ap neitherArea length-area) f
 
   pub same-kept : keptOf (listOf (keptOf e)) ≡ keptOf e
   same-kept = listed-kept (keptOf e) (let n = length-kept e long in omega arith)
@@ -250,19 +247,22 @@ module _ (e : Events) (long : length (e .list) ≡ capacity) (recorded : any nev
 -- ---- an old area
 
 -- it loads as the 248 bytes it makes with 14 unused records after it
-pub old-loads : (f : Events) (old : List ℕ) → length old ≡ oldLength → loadOf f old ≡ loadOf f (old ++ replicate (areaLength - oldLength) 0xFF)
+pub old-loads : (f : Events) (old : List ℕ) → length old ≡ oldLength
+    → loadOf f old ≡ loadOf f (old ++ replicate (areaLength - oldLength) 0xFF)
 unfolding loadOf
 old-loads f old h =
     let whole = old ++ replicate (areaLength - oldLength) 0xFF in
     let same = sym (unused-after old (areaLength - oldLength)) in
     let long : length whole ≡ areaLength = simp (length-append, length-replicate) (omega arith) in
-    let number : loadNumber old ≡ loadNumber whole =
-    numbered old (ap neitherArea h) ∙ ap recordsNumber same ∙ sym (numbered whole (ap neitherArea long)) in
-    λ i. record { number = number i; events = cond (eqb (number i) 0) (listOf (usedOf (same i))) f }
+    let outcome : first (loadRows old) ≡ first (loadRows whole) =
+    by-records old (ap neitherArea h)
+    ∙ ap (λ (rs : List Event). first (recordRows rs)) same
+    ∙ sym (by-records whole (ap neitherArea long)) in
+    λ i. record { outcome = outcome i; events = cond (isDone (outcome i)) (listOf (usedOf (same i))) f }
 
 -- what the board of 48 saved of at most 48 events loads as these
-pub old-save-load : (es : List Event) → length es ≤ 48 → any neverRecorded es ≡ false
-    → (f : Events) → loadOf f (each recordOf (es ++ replicate (48 - length es) noRecord)) ≡ record { number = 0; events = listOf es }
+pub old-save-load : (es : List Event) → length es ≤ 48 → any unrecorded es ≡ false
+    → (f : Events) → loadOf f (each recordOf (es ++ replicate (48 - length es) noRecord)) ≡ record { outcome = Done; events = listOf es }
 old-save-load es few recorded f =
     let m = 48 - length es in
     let many : length (es ++ replicate m noRecord) ≡ 48 = simp (length-append, length-replicate) (omega arith) in
@@ -286,18 +286,22 @@ few-events area =
     let k = length-in area in
     omega arith
 
-module _ (area : List ℕ) (done : loadNumber area ≡ 0) where
+-- an area of neither length is none that is loaded
+short : (n : ℕ) → neitherArea n ≡ false → n ≤ areaLength
+short n h = go (eqb n areaLength) refl (eqb n oldLength) refl h
+  where
+    go : (s : Bool) → eqb n areaLength ≡ s → (t : Bool) → eqb n oldLength ≡ t → (not s && not t) ≡ false → n ≤ areaLength
+    go true p t q e = let k = eqb-true n areaLength p in omega arith
+    go false p true q e = let k = eqb-true n oldLength q in omega arith
+    go false p false q e = absurd (false≢true (sym e))
+
+module _ (area : List ℕ) (done : first (loadRows area) ≡ Done) where
   accepted : (length area ≤ areaLength) × (parted (recordsIn area) ≡ false)
-  unfolding loadNumber
-  accepted = go (eqb (length area) areaLength) refl (eqb (length area) oldLength) refl (parted (recordsIn area)) done
-    where
-      go : (s : Bool) → eqb (length area) areaLength ≡ s → (t : Bool) → eqb (length area) oldLength ≡ t → (u : Bool)
-          → _≡_ {A = ℕ} (cond (not s && not t) 31 (cond u 32 (cond (any strange (recordsIn area)) 33 0))) 0 → (length area ≤ areaLength) × (u ≡ false)
-      go true p t q true e = let z : _≡_ {A = ℕ} 32 0 = e in absurd (omega arith)
-      go true p t q false e = let k = eqb-true (length area) areaLength p in (omega arith, refl)
-      go false p true q true e = let z : _≡_ {A = ℕ} 32 0 = e in absurd (omega arith)
-      go false p true q false e = let k = eqb-true (length area) oldLength q in (omega arith, refl)
-      go false p false q u e = let z : _≡_ {A = ℕ} 31 0 = e in absurd (omega arith)
+  unfolding loadRows
+  accepted =
+      let rs = recordsIn area in
+      let (length-known, others) = off WrongArea (neitherArea (length area)) (recordRows rs) done in
+      (short (length area) length-known, off UsedAfterUnused (parted rs) ((NeverRecorded, any neverRecorded rs) ∷ []) others .0)
 
   long-whole : length (wholeOf area) ≡ areaLength
   long-whole = let n = accepted .0 in simp (length-append, length-replicate) (omega arith)
@@ -306,7 +310,7 @@ module _ (area : List ℕ) (done : loadNumber area ≡ 0) where
   unfolding areaOf loadOf
   load-save b f =
       let es = eventsIn area in
-      ap (λ (n : ℕ). areaOf (cond (eqb n 0) (listOf es) f)) done
+      ap (λ (o : Outcome). areaOf (cond (isDone o) (listOf es) f)) done
       ∙ ap (λ (ks : List Event). each recordOf (ks ++ replicate (capacity - length ks) noRecord)) (listed-kept es (few-events area))
       ∙ ap (λ (n : ℕ). each recordOf (es ++ replicate (n - length es) noRecord)) (sym (length-in area))
       ∙ ap (each recordOf) (unused-rest (recordsIn area) (accepted .1))

@@ -1,3 +1,2 @@
 pub mod Events
-pub mod Memory
-mod Facts
+pub mod Area

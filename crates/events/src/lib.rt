@@ -1,12 +1,14 @@
 // The events that the board keeps: the latest, oldest first, and which of them are new.
-mod memory;
+mod area;
 
 ghost use mathlib.Core.Bool.{cond};
 ghost use mathlib.Core.Path.{_≡_};
 ghost use Prim.Native.Nat.{_+_, _-_, _≤_, min};
 ghost use lib.Dec.{eqb};
 ghost use Rattle.events.specs.Events.{capacity, eventAt, timeOf, numberOf, keptCount, newCount, latest, keptOf, newOf, noEvents, addOf, sentOf, placed, eventLongs};
-ghost use Rattle.pairs.specs.Pairs.{halfAt};
+ghost use Rattle.numbers.specs.Numbers.{halfAt};
+use numbers::lesser;
+use refusals::Outcome;
 
 // How many events are kept.
 pub const CAPACITY: usize = 62;
@@ -26,9 +28,9 @@ pub struct Events {
     pub unsent: u8,
 }
 
-// What a load gives back: its number, and the events after it.
+// What a load comes to, and the events after it.
 pub struct Loaded {
-    pub number: u8,
+    pub outcome: Outcome,
     pub events: Events,
 }
 
@@ -71,14 +73,14 @@ impl Events {
     pub fn kept_count(self) -> u8
         ensures { λ r. ⌜ (r ≡ keptCount self) × (r ≤ capacity) ⌝ }
     {
-        lesser(CAPACITY as u8, self.kept)
+        lesser(CAPACITY, self.kept as usize) as u8
     }
 
     // How many are new.
     pub fn new_count(self) -> u8
         ensures { λ r. ⌜ (r ≡ newCount self) × (r ≤ capacity) ⌝ }
     {
-        lesser(lesser(CAPACITY as u8, self.kept), self.unsent)
+        lesser(self.kept_count() as usize, self.unsent as usize) as u8
     }
 
     // The n-th that is kept, from 0, oldest first; no event where there is none.
@@ -113,7 +115,7 @@ impl Events {
         ensures { λ r. ⌜ r ≡ halfAt (eventLongs lifetime (latest count self)) i ⌝ }
     {
         let event = self.latest_at(count, one_less(i / 2));
-        pairs::half(long(lifetime, event, i / 2), i)
+        numbers::half(long(lifetime, event, i / 2), i)
     }
 
     fn latest_at(self, count: u8, n: u16) -> Event
@@ -174,12 +176,6 @@ fn one_more(n: u8) -> u8
     } else {
         CAPACITY as u8
     }
-}
-
-fn lesser(a: u8, b: u8) -> u8
-    ensures { λ r. ⌜ (r ≡ min a b) × (r ≤ a) ⌝ }
-{
-    if b < a { b } else { a }
 }
 
 // Where the latest `count` begin.

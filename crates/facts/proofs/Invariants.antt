@@ -5,7 +5,7 @@
 -- pulses per km. Ends that the paper itself sets are met, and are not meant here: 62 events, the 65,535 of a count, the 2^32 - 1 of
 -- clock and distance, the byte of whole degrees. Assumes nothing.
 use mathlib.Core.Path.{_≡_, refl, sym, ap, _∙_, subst, subst⁻¹}
-use mathlib.Core.Bool.{Bool, true, false, _&&_, _||_, cond, and-false, false≢true}
+use mathlib.Core.Bool.{Bool, true, false, _&&_, _||_, cond, false≢true}
 use mathlib.Core.List.{List, [], _∷_, _++_, map, reverse, reverseAux}
 use Prim.Native.Nat.{ℕ, zero, suc, _+_, _*_, _-_, _/_, _^_, _≤_, _<_, min, max}
 use native.Mathlib.Nat.{zero-add, add-zero, mul-pos, not-suc-le-zero}
@@ -13,7 +13,7 @@ use native.Mathlib.Omega.{arith}
 use borrow.Author.Tests.{eqb-true, leb-true, le-leb, lt-leb, ltb-true, ltb-false, ne-eqb, not-false}
 use lib.Dec.{eqb, leb, ltb}
 use lib.IntN.{ℤ, pos, negsuc}
-use lib.ListN.{length, take, length-append}
+use lib.ListN.{length, take, getD, length-append}
 use lib.Seq.{take-all}
 use lib.Ieee.{Float, nan, inf, fin, Format, binary32, low, prec, emax, up, odd, units, round, div, ofInt, isNan}
 use lib.Ieee.Exact.{HasValue}
@@ -31,33 +31,45 @@ use Rattle.guard.proofs.Account.{empty-memory}
 use Rattle.guard.proofs.CellRows.{CellRows, cell-rows}
 use Rattle.live.specs.Live.{exact, quotient}
 use Rattle.readings.specs.declared.Readings.{Readings}
-use Rattle.readings.specs.declared.Judged.the-variants.{Good, WrongCells, WrongCurrent, NoInternal, WrongPulses}
-use Rattle.readings.specs.Readings.{wrongCells, wrongCurrent, noInternal, wrongPulses, judgedOf, numberOf}
+use Rattle.readings.specs.Readings.{wrongCurrent}
 use Rattle.settings.specs.declared.Settings.{Settings}
-use Rattle.settings.specs.Settings as settings
+use Rattle.settings.specs.Settings.{registerOf}
+use Rattle.settings.proofs.Drafts as settings
 use Rattle.signed.specs.Signed.{above, below}
 use Rattle.statistics.specs.Statistics.{hundreds}
+use Rattle.answers.specs.declared.Shown.{Shown}
+use Rattle.answers.specs.declared.Shown.the-variants.{Register, Nothing}
+use Rattle.answers.specs.Registers.{shownAt}
 use Rattle.board.specs.declared.Board.{Board}
-use Rattle.board.specs.declared.Shown.{Shown}
-use Rattle.board.specs.declared.Shown.the-variants.{Register, Nothing}
-use Rattle.board.specs.Registers.{shownAt}
 use Rattle.requests.specs.declared.Query.{Query}
-use Rattle.requests.specs.declared.Query.the-variants.{Registers, Listed, Live, NewEvents, AllEvents, Temperatures, Cells, SettingsOf}
+use Rattle.requests.specs.declared.Query.the-variants.{Registers, Listed, Bare, NewEvents, AllEvents, Temperatures, Cells, SettingsOf}
 use Rattle.requests.specs.declared.Request.{Request}
 use Rattle.requests.specs.declared.Request.the-variants as request
-use Rattle.pack.specs.Pack.{usableCount}
 use Rattle.hire.specs.Hire.{noSensed}
-use Rattle.board.specs.Start.{startBoard}
-use Rattle.requests.specs.Requests.{inOneRange, requestOf, addressAt, pairsOf}
-use Rattle.board.specs.Calls.{Call, tick, frame, handover, offer, fetch, save, load}
-use Rattle.board.specs.Behaviour.{afterIn, board}
-use Rattle.board.specs.Demands.{deeds}
-use Rattle.board.specs.Account.{Deed, took, wrote, row, hands, ticking, settingsAt, secondsAt, clockAt, momentOf, momentsAt, latchedAt, waitsAt, rememberedAt, sensedOf, sensedAt, windowAt, keptSince, newSince, eventsAt, heldAt, boardAt, deedsOf}
-use Rattle.board.proofs.Account.Deeds.{AfterOne, called-so}
+use Rattle.requests.specs.Requests.{inOneRange, requestOf, addressAt, marks}
+use Rattle.numbers.specs.Numbers.{be16At, le16At}
+use Rattle.writes.specs.declared.Form.{Form}
+use Rattle.writes.specs.declared.Form.the-variants as form
+use Rattle.writes.specs.declared.Pair.{Pair}
+use Rattle.writes.specs.Writes.{pairAt, pairsOf}
+use Rattle.receiver.specs.Receiver.{taken}
+use Rattle.receiver.specs.Heard.{begun}
+use Rattle.receiver.proofs.Heard.{held}
+use Rattle.board.proofs.Account.Calls.{heard-more}
+use Rattle.board.specs.Calls.{Call, tick, frame, handover, offer, fetch, save, load, shape}
+use Rattle.board.specs.Changes.{askedDeeds}
+use Rattle.board.specs.Line.{heldIn}
+use Rattle.board.specs.Behaviour.{board}
+use Rattle.board.specs.Demands.{deeds, reached}
+use Rattle.board.specs.Account.{Deed, took, wrote, cleared, forgot, sent, handed, heard, fetched, loaded, row, hands, ticking}
+use Rattle.board.specs.Account.{settingsAt, secondsAt, clockAt, momentOf, momentsAt, latchedAt, waitsAt, rememberedAt, sensedOf, sensedAt}
+use Rattle.board.specs.Account.{windowAt, keptSince, newSince, eventsAt, heardAt, boardAt, deedsOf}
+use Rattle.board.proofs.Account.Deeds.{Good, May, Each, Bring, after-calls, after-typed}
 use Rattle.board.proofs.Account.Shown.{newest-kept}
-use Rattle.board.proofs.Account.Settings.{Fits, ranges, wait-some}
+use Rattle.board.proofs.Account.Settings.{Fits, ranges, kept, wait-some}
 use Rattle.requests.proofs.Sound.{namedBy, registerIn, inRange, readsInRange, each-shown, sound}
 use Rattle.board.proofs.Demands.Demand2.{account}
+use Rattle.facts.proofs.Calls.{shownBy}
 
 -- ---- laws of lists
 
@@ -103,7 +115,8 @@ sum-most k [] a p = omega arith
 sum-most k (x ∷ xs) a p = let h = sum-most k xs (a + x) (p .1) in let g : x ≤ k = p .0 in omega arith
 
 -- the lowest and the highest gathered are so
-gathered-within : (xs : List ℕ) (a b : ℕ) → (gather min a xs ≤ a) × (b ≤ gather max b xs) × All (λ c. (gather min a xs ≤ c) × (c ≤ gather max b xs)) xs
+gathered-within : (xs : List ℕ) (a b : ℕ)
+    → (gather min a xs ≤ a) × (b ≤ gather max b xs) × All (λ c. (gather min a xs ≤ c) × (c ≤ gather max b xs)) xs
 gathered-within [] a b = (omega arith, omega arith, tt)
 gathered-within (x ∷ xs) a b =
     let i = gathered-within xs (min a x) (max b x) in
@@ -128,26 +141,108 @@ Typed cs = All TypedCall cs
 abbrev pub ticksSince : (Deed → Bool) → List Deed → List (List ℕ × Readings)
 ticksSince reset h = each ticking (since reset h)
 
--- what the number 0 says of a tick
+-- what holds of a tick that is done
 abbrev Passed : ℕ → ℕ → List ℕ × Readings → Type 0
-Passed count perKm t =
-    (usableCount count ≡ true) × (wrongCells count (length (t .0)) ≡ false) × (wrongCurrent (t .1 .current) ≡ false) × (wrongPulses perKm (t .1 .pulses) ≡ false)
+Passed count perKm t = Good count perKm (t .0) (t .1)
 
-good : (count perKm : ℕ) (t : List ℕ × Readings) → usableCount count ≡ true → eqb (numberOf (judgedOf count perKm (length (t .0)) (t .1))) 0 ≡ true → Passed count perKm t
-unfolding numberOf judgedOf
-good count perKm t u = go (wrongCells count (length (t .0))) (wrongCurrent (t .1 .current)) (noInternal (t .1 .internal)) (wrongPulses perKm (t .1 .pulses))
+-- a register of bytes is of sixteen bits
+abbrev pub Sixteen : Pair → Type 0
+Sixteen p = p .value < 65536
+
+byte : (s : List ℕ) (i : ℕ) → All (λ b. b ≤ 255) s → getD s i 0 ≤ 255
+byte [] i p = omega arith
+byte (b ∷ s) zero p = p .0
+byte (b ∷ s) (suc i) p = byte s i (p .1)
+
+sixteen : (f : Form) (s : List ℕ) (n : ℕ) → All (λ b. b ≤ 255) s → All Sixteen (pairsOf f s n)
+unfolding pairsOf pairAt
+sixteen f s zero typed = tt
+sixteen f s (suc n) typed = (go f, sixteen f s n typed)
   where
-    go : (a b c d : Bool) → eqb (numberOf (cond a WrongCells (cond b WrongCurrent (cond c NoInternal (cond d WrongPulses Good))))) 0 ≡ true
-        → (usableCount count ≡ true) × (a ≡ false) × (b ≡ false) × (d ≡ false)
-    go true b c d e = absurd (false≢true e)
-    go false true c d e = absurd (false≢true e)
-    go false false true d e = absurd (false≢true e)
-    go false false false true e = absurd (false≢true e)
-    go false false false false e = (u, refl, refl, refl)
+    high : (i : ℕ) → be16At s i < 65536
+    high i = let a = byte s i typed in let b = byte s (i + 1) typed in omega arith
 
--- what follows for a tick from its number and from its call holds of all that were accepted
-module _ (cells perKm : ℕ) (Q : Call → Type 0) (P : List ℕ × Readings → Type 0)
-    (law : (t : List ℕ × Readings) → Q (tick (t .0) (t .1)) → Passed cells perKm t → P t) where
+    low : (i : ℕ) → le16At s i < 65536
+    low i = let a = byte s i typed in let b = byte s (i + 1) typed in omega arith
+
+    go : (f : Form) → Sixteen (pairAt f s n)
+    go form.Modbus = high (7 + 2 * n)
+    go form.Block = low (5 + 2 * n)
+    go form.List = low (5 + 4 * n)
+
+abbrev pub Bytes : List ℕ → Type 0
+Bytes s = All (λ b. b ≤ 255) s
+
+all-taken : (n : ℕ) (bytes : List ℕ) → Bytes bytes → Bytes (take n bytes)
+all-taken zero bytes p = tt
+all-taken (suc n) [] p = tt
+all-taken (suc n) (b ∷ bytes) p = (p .0, all-taken n bytes (p .1))
+
+all-begun : (bytes : List ℕ) → Bytes bytes → Bytes (begun bytes)
+all-begun [] p = tt
+all-begun (b ∷ bytes) p = go (eqb b 0xAA) (all-begun bytes (p .1))
+  where
+    go : (t : Bool) → Bytes (begun bytes) → Bytes (cond t (b ∷ bytes) (begun bytes))
+    go true q = p
+    go false q = q
+
+-- what typed calls bring: ticks with cells of sixteen bits, registers of sixteen bits, and bytes; each call once
+abbrev pub TypedDeed : Deed → Type 0
+TypedDeed d = All (λ t. All (λ c. c ≤ 65535) (t .0)) (row d .ticks) × All Sixteen (row d .writes) × Bytes (row d .hears)
+
+module _ (cells perKm : ℕ) where
+  asked-typed : (s : List ℕ) → Bytes s → (q : Request) → Each cells perKm TypedDeed (askedDeeds s q)
+  unfolding askedDeeds
+  asked-typed s t (request.Refused refusal) = tt
+  asked-typed s t request.ClearEvents = ((tt, tt, tt), tt)
+  asked-typed s t request.ClearStatistics = ((tt, tt, tt), tt)
+  asked-typed s t (request.Write f n) = ((tt, sixteen f s n t, tt), tt)
+  asked-typed s t (request.Read q) = go (marks q)
+    where
+      go : (t : Bool) → Each cells perKm TypedDeed (cond t (sent ∷ []) [])
+      go true = ((tt, tt, tt), tt)
+      go false = tt
+
+  typed-deeds : (h : List Deed) (c : Call) → TypedCall c → Bytes (heardAt h)
+      → Each cells perKm TypedDeed (shape c .deeds (boardAt cells perKm h))
+  unfolding shape boardAt
+  typed-deeds h (tick given r) t p = (((t, tt), tt, tt), tt)
+  typed-deeds h (frame s room) t p = asked-typed s t (requestOf s)
+  typed-deeds h handover t p = ((tt, tt, tt), tt)
+  typed-deeds h (offer bytes) t p = ((tt, tt, all-taken (taken (boardAt cells perKm h .hire .receiver) bytes) bytes t), tt)
+  typed-deeds h (fetch room) t p =
+      let s = heldIn (boardAt cells perKm h) in
+      ((tt, tt, tt), asked-typed s (subst⁻¹ Bytes (held (heardAt h)) (all-begun (heardAt h) p)) (requestOf s))
+  typed-deeds h (save n) t p = tt
+  typed-deeds h (load area) t p = ((tt, tt, tt), tt)
+
+  still-bytes : (d : Deed) (k : List Deed) → TypedDeed d → Bytes (heardAt k) → Bytes (heardAt (d ∷ k))
+  unfolding heardAt
+  still-bytes (took given r) k t p = p
+  still-bytes (wrote ps) k t p = p
+  still-bytes cleared k t p = p
+  still-bytes forgot k t p = p
+  still-bytes sent k t p = p
+  still-bytes handed k t p = tt
+  still-bytes (heard bytes) k t p = subst⁻¹ Bytes (heard-more cells perKm k bytes) (all-append (λ b. b ≤ 255) (heardAt k) bytes p (t .2))
+  still-bytes fetched k t p = tt
+  still-bytes (loaded es) k t p = p
+
+  -- so what such deeds keep holds after all typed calls
+  pub after-typed-calls : (P : List Deed → Type 0)
+      → ((d : Deed) (k : List Deed) → May cells perKm k d → TypedDeed d → P k → P (d ∷ k)) → P []
+      → (cs : List Call) → Typed cs → P (deedsOf cells perKm cs)
+  unfolding heardAt
+  after-typed-calls P keeps p cs typed =
+      after-typed cells perKm TypedCall TypedDeed (λ k. Bytes (heardAt k) × P k) (λ h c q x. typed-deeds h c q (x .0)) (tt, tt, tt)
+      (λ d k m t x. (still-bytes d k t (x .0), keeps d k m t (x .1))) (tt, p) cs (bring cs typed) .1
+    where
+      bring : (cs : List Call) → Typed cs → Bring cells perKm TypedCall cs
+      bring [] t = tt
+      bring (c ∷ cs) t = (t .0, bring cs (t .1))
+
+-- what follows for a tick that is done holds of all that were accepted
+module _ (cells perKm : ℕ) (P : List ℕ × Readings → Type 0) where
   module _ (reset : Deed → Bool) where
     abbrev So : List Deed → Type 0
     So k = All P (ticksSince reset k)
@@ -159,25 +254,32 @@ module _ (cells perKm : ℕ) (Q : Call → Type 0) (P : List ℕ × Readings →
         go true = tt
         go false = all-append P (row d .ticks) (ticksSince reset k) p ps
 
-    no-tick : (d : Deed) (k : List Deed) → row d .ticks ≡ [] → row d .writes ≡ [] → So k → So (d ∷ k)
-    no-tick d k e f = more d k (subst⁻¹ (All P) e tt)
+  -- its ticks may be done
+  may-ticks : (k : List Deed) (d : Deed) → May cells perKm k d → All (Passed cells perKm) (row d .ticks)
+  may-ticks k (took given r) m = (m, tt)
+  may-ticks k (wrote ps) m = tt
+  may-ticks k cleared m = tt
+  may-ticks k forgot m = tt
+  may-ticks k sent m = tt
+  may-ticks k handed m = tt
+  may-ticks k (heard bytes) m = tt
+  may-ticks k fetched m = tt
+  may-ticks k (loaded es) m = tt
 
-    accepted : (cs : List Call) → All Q cs → So (deedsOf cells perKm cs)
-    unfolding deedsOf
-    accepted [] qs = tt
-    accepted (c ∷ cs) qs = called-so cells perKm So no-tick h (accepted cs (qs .1)) c (go c (qs .0) (accepted cs (qs .1)))
-      where
-        h : List Deed
-        h = deedsOf cells perKm cs
+  accepted : ((t : List ℕ × Readings) → Passed cells perKm t → P t) → (reset : Deed → Bool) (cs : List Call)
+      → All P (ticksSince reset (deedsOf cells perKm cs))
+  accepted law reset cs =
+      after-calls cells perKm (So reset)
+      (λ d k m p. more reset d k (all-so P (Passed cells perKm) law (row d .ticks) (may-ticks k d m)) p) tt cs
 
-        go : (c : Call) → Q c → So h → AfterOne cells perKm So no-tick h c
-        go (tick given r) q p = λ e f. more (took given r) h (law (given, r) q (good cells perKm (given, r) e f), tt) p
-        go (frame s room) q p = λ f n e. more (wrote (pairsOf f s n)) h tt p
-        go handover q p = tt
-        go (offer bytes) q p = tt
-        go (fetch room) q p = λ f n e. more (wrote (pairsOf f (heldAt h) n)) h tt p
-        go (save n) q p = tt
-        go (load area) q p = tt
+  accepted-typed : ((t : List ℕ × Readings) → All (λ c. c ≤ 65535) (t .0) → Passed cells perKm t → P t) → (cs : List Call) → Typed cs
+      → All P (ticksSince never (deedsOf cells perKm cs))
+  accepted-typed law cs typed =
+      after-typed-calls cells perKm (So never) (λ d k m t p. more never d k (both (row d .ticks) (t .0) (may-ticks k d m)) p) tt cs typed
+    where
+      both : (ts : List (List ℕ × Readings)) → All (λ t. All (λ c. c ≤ 65535) (t .0)) ts → All (Passed cells perKm) ts → All P ts
+      both [] q m = tt
+      both (t ∷ ts) q m = (law t (q .0) (m .0), both ts (q .1) (m .1))
 
 -- ---- what an accepted tick has, on a board with that cell count
 
@@ -226,16 +328,16 @@ held-current (negsuc n) e =
 module _ (cells perKm : ℕ) (t : List ℕ × Readings) where
   count-held : Passed cells perKm t → (4 ≤ cells) × (cells ≤ 16) × (length (t .0) ≡ cells)
   count-held j = (
-    leb-true 4 cells (and-left (leb 4 cells) (leb cells 16) (j .0)),
-    leb-true cells 16 (and-right (leb 4 cells) (leb cells 16) (j .0)),
-    eqb-true (length (t .0)) cells (not-false (eqb (length (t .0)) cells) (j .1)),
+    leb-true 4 cells (and-left (leb 4 cells) (leb cells 16) (j .count)),
+    leb-true cells 16 (and-right (leb 4 cells) (leb cells 16) (j .count)),
+    eqb-true (length (t .0)) cells (not-false (eqb (length (t .0)) cells) (j .cells-right)),
   )
 
-  tick-held : Unit {0} → Passed cells perKm t → Tick cells t
-  tick-held u j =
+  tick-held : Passed cells perKm t → Tick cells t
+  tick-held j =
       let few = count-held j in
       let all = take-all 16 (t .0) (omega arith) in
-      let c = held-current (t .1 .current) (j .2) in
+      let c = held-current (t .1 .current) (j .current-right) in
       record {
         usable = (few .0, few .1);
         cells = few .2;
@@ -247,14 +349,14 @@ module _ (cells perKm : ℕ) (t : List ℕ × Readings) where
         current = c .2;
         drawn = (omega arith, omega arith);
         fed = (omega arith, omega arith);
-        pulses = ltb-false 400 (t .1 .pulses) (or-left (ltb 400 (t .1 .pulses)) (eqb perKm 0 && ltb 0 (t .1 .pulses)) (j .3));
+        pulses = ltb-false 400 (t .1 .pulses) (or-left (ltb 400 (t .1 .pulses)) (eqb perKm 0 && ltb 0 (t .1 .pulses)) (j .pulses-right));
       }
     where
       go : (xs : List ℕ) → 4 ≤ length xs → lowestOf xs ≤ highestOf xs
       go [] h = absurd (not-suc-le-zero h)
       go (x ∷ xs) h = let i = gathered-within (x ∷ xs) 65535 0 .2 .0 in omega arith
 
-  typed-held : TypedCall (tick (t .0) (t .1)) → Passed cells perKm t → TypedTick t
+  typed-held : All (λ c. c ≤ 65535) (t .0) → Passed cells perKm t → TypedTick t
   typed-held typed j =
       let few = count-held j in
       let total = sum-most 65535 (t .0) 0 typed in
@@ -268,12 +370,10 @@ module _ (cells perKm : ℕ) (t : List ℕ × Readings) where
 -- ---- settings and waits
 
 setting-held : (s : Settings) → Fits s → (s .r332 ≤ 30) × (1200 ≤ s .r315)
-unfolding settings.inRange settings.noneBelow
-setting-held s fits = (leb-true (s .r332) 30 (go (leb (s .r332) 30) refl (λ e. simp (e, and-false))), leb-true 1200 (s .r315) (go (leb 1200 (s .r315)) refl (λ e. simp (e, and-false))))
-  where
-    go : (t : Bool) → {u : Bool} → u ≡ t → (u ≡ false → settings.inRange s ≡ false) → u ≡ true
-    go true e f = e
-    go false e f = absurd (false≢true (sym (f e) ∙ fits .0))
+unfolding registerOf
+setting-held s fits =
+    let range = settings.between s (fits .0) in
+    (range 332 (omega arith) (omega arith) refl .1, range 315 (omega arith) (omega arith) refl .0)
 
 abbrev Short : Moment → Type 0
 Short m = m .settings .r332 ≤ 30
@@ -283,37 +383,30 @@ Fitting m = Fits (m .settings)
 
 -- at every accepted tick the settings in force fit
 module _ (cells perKm : ℕ) where
-  AllFit : List Deed → Type 0
-  AllFit k = All Fitting (momentsAt k)
+  abbrev AllFit : List Deed → Type 0
+  AllFit k = Fits (settingsAt k) × All Fitting (momentsAt k)
 
-  no-moment : (d : Deed) (k : List Deed) → row d .ticks ≡ [] → row d .writes ≡ [] → AllFit k → AllFit (d ∷ k)
-  unfolding AllFit
-  no-moment d k e f p = subst⁻¹ (λ (ts : List (List ℕ × Readings)). All Fitting (map (momentOf (settingsAt k)) ts ++ momentsAt k)) e p
+  kept-fit : (d : Deed) (k : List Deed) → May cells perKm k d → AllFit k → AllFit (d ∷ k)
+  kept-fit d k m (fits, p) =
+      let now = momentOf (settingsAt k) in (
+        kept cells perKm d k m fits,
+        all-append Fitting (map now (row d .ticks)) (momentsAt k) (all-mapped Fitting now (λ t. fits) (row d .ticks)) p,
+      )
 
   moments-fit : (cs : List Call) → All Fitting (momentsAt (deedsOf cells perKm cs))
-  unfolding deedsOf AllFit
-  moments-fit [] = tt
-  moments-fit (c ∷ cs) = called-so cells perKm AllFit no-moment h (moments-fit cs) c (go c (moments-fit cs))
-    where
-      h : List Deed
-      h = deedsOf cells perKm cs
-
-      go : (c : Call) → AllFit h → AfterOne cells perKm AllFit no-moment h c
-      go (tick given r) p = λ e f. (ranges cells perKm cs, p)
-      go (frame s room) p = λ f n e. p
-      go handover p = tt
-      go (offer bytes) p = tt
-      go (fetch room) p = λ f n e. p
-      go (save n) p = tt
-      go (load area) p = tt
+  unfolding deedsOf
+  moments-fit cs = after-calls cells perKm AllFit kept-fit (ranges cells perKm [], tt) cs .1
 
 moments-short : (cells perKm : ℕ) (cs : List Call) → All Short (momentsAt (deedsOf cells perKm cs))
-moments-short cells perKm cs = all-so Short Fitting (λ m fits. setting-held (m .settings) fits .0) (momentsAt (deedsOf cells perKm cs)) (moments-fit cells perKm cs)
+moments-short cells perKm cs =
+    all-so Short Fitting (λ m fits. setting-held (m .settings) fits .0) (momentsAt (deedsOf cells perKm cs)) (moments-fit cells perKm cs)
 
 -- at every accepted tick each row's 'Holds' and 'Recovers' of UV and OV is the paper's sentence about its cells
-pub cell-rows-held : (cells perKm : ℕ) (cs : List Call) → All (λ m. CellRows (m .settings) (m .readings) (m .cells)) (momentsAt (deeds cells perKm cs))
+pub cell-rows-held : (cells perKm : ℕ) (cs : List Call)
+    → All (λ m. CellRows (m .settings) (m .readings) (m .cells)) (momentsAt (deeds cells perKm cs))
 cell-rows-held cells perKm cs =
-    all-so (λ m. CellRows (m .settings) (m .readings) (m .cells)) Fitting (λ m fits. cell-rows (m .settings) (m .readings) (m .cells) (fits .0))
+    all-so (λ m. CellRows (m .settings) (m .readings) (m .cells)) Fitting
+    (λ m fits. cell-rows (m .settings) (m .readings) (m .cells) (fits .0))
     (momentsAt (deeds cells perKm cs)) (moments-fit cells perKm (reverse cs))
 
 -- a wait, and whether its condition is latched
@@ -371,17 +464,25 @@ div-real f (fin s m e) (fin t n d) u v a b p q h =
 -- a quotient of whole numbers is a number
 quotient-real : (z : ℤ) (d : ℕ) → 0 < d → d ≤ 16777216 → isNan (quotient z d) ≡ false
 unfolding ofInt
-quotient-real (pos n) d some held = div-real binary32 _ _ false false (min 16777216 n) d (round-whole binary32 false (min 16777216 n) (omega arith)) (round-whole binary32 false d held) some
-quotient-real (negsuc n) d some held = div-real binary32 _ _ true false (suc (min 16777215 n)) d (round-whole binary32 true (suc (min 16777215 n)) (omega arith)) (round-whole binary32 false d held) some
+quotient-real (pos n) d some held =
+    div-real binary32 _ _ false false (min 16777216 n) d (round-whole binary32 false (min 16777216 n) (omega arith))
+    (round-whole binary32 false d held) some
+quotient-real (negsuc n) d some held =
+    div-real binary32 _ _ true false (suc (min 16777215 n)) d (round-whole binary32 true (suc (min 16777215 n)) (omega arith))
+    (round-whole binary32 false d held) some
 
 -- volts and amps, before a tick and after one
 live-real : (h : List Deed) → (isNan (sensedAt h .live .volts) ≡ false) × (isNan (sensedAt h .live .amps) ≡ false)
 unfolding sensedAt isNan ofInt
 live-real h = go (ticksSince hands h)
   where
-    go : (ts : List (List ℕ × Readings)) → (isNan (headOr noSensed (map sensedOf ts) .live .volts) ≡ false) × (isNan (headOr noSensed (map sensedOf ts) .live .amps) ≡ false)
+    go : (ts : List (List ℕ × Readings))
+        → (isNan (headOr noSensed (map sensedOf ts) .live .volts) ≡ false) × (isNan (headOr noSensed (map sensedOf ts) .live .amps) ≡ false)
     go [] = (refl, refl)
-    go (t ∷ ts) = (quotient-real (pos (sumOf (t .0))) 10000 (omega arith) (omega arith), quotient-real (t .1 .current) 1000 (omega arith) (omega arith))
+    go (t ∷ ts) = (
+      quotient-real (pos (sumOf (t .0))) 10000 (omega arith) (omega arith),
+      quotient-real (t .1 .current) 1000 (omega arith) (omega arith),
+    )
 
 -- ---- the board after any calls
 
@@ -428,7 +529,7 @@ module _ (cells perKm : ℕ) (cs : List Call) where
   made = deeds cells perKm cs
 
   accepted-ticks : (reset : Deed → Bool) → All (Tick cells) (ticksSince reset made)
-  accepted-ticks reset = accepted cells perKm (λ c. Unit {0}) (Tick cells) (tick-held cells perKm) reset (reverse cs) (all-of (λ c. Unit {0}) (λ c. tt) (reverse cs))
+  accepted-ticks reset = accepted cells perKm (Tick cells) (tick-held cells perKm) reset (reverse cs)
 
   window-held : All (λ p. p ≤ 400) (windowAt made)
   unfolding windowAt
@@ -444,7 +545,8 @@ module _ (cells perKm : ℕ) (cs : List Call) where
   unfolding boardAt eventsAt clockAt secondsAt latchedFrom waitsFrom latchedAt waitsAt rememberedAt
   made-bounds =
       let older = newest-kept made in
-      let all : length (keptSince made) ≡ length (newSince made) + length (older .0) = ap length (older .1) ∙ length-append (newSince made) (older .0) in
+      let all : length (keptSince made) ≡ length (newSince made) + length (older .0) =
+      ap length (older .1) ∙ length-append (newSince made) (older .0) in
       let short = moments-short cells perKm (reverse cs) in
       let fits = ranges cells perKm (reverse cs) in
       let range = setting-held (settingsAt made) fits in
@@ -472,13 +574,13 @@ module _ (cells perKm : ℕ) (cs : List Call) where
         wait = (wait-some (settingsAt made) fits, range .0);
         high = omega arith;
         ticks = accepted-ticks never;
-        typed = λ t. accepted cells perKm TypedCall TypedTick (typed-held cells perKm) never (reverse cs) (all-reversed TypedCall cs [] t tt);
+        typed = λ t. accepted-typed cells perKm TypedTick (typed-held cells perKm) (reverse cs) (all-reversed TypedCall cs [] t tt);
         volts = live-real made .0;
         amps = live-real made .1;
         km-per-hour = λ some held. quotient-real (pos (3600 * gather _+_ 0 (windowAt made))) perKm some (omega arith);
       }
 
-  pub bounds : Bounds cells perKm cs (afterIn board (startBoard cells perKm) cs)
+  pub bounds : Bounds cells perKm cs (reached board cells perKm cs)
   bounds = subst⁻¹ (Bounds cells perKm cs) (account cells perKm cs) made-bounds
 
 -- ---- the registers of a request: none is `Nothing`, and none is past the 65,535 of `value`
@@ -488,7 +590,7 @@ shows (Register v) = true
 shows Nothing = false
 
 abbrev pub Shows : Board → ℕ → Type 0
-Shows b at = (shows (shownAt b at) ≡ true) × (at ≤ 65535)
+Shows b at = (shows (shownBy b at) ≡ true) × (at ≤ 65535)
 
 shown-in : (b : Board) (at n i : ℕ) → inOneRange at n ≡ true → i < n → Shows b (at + i)
 unfolding shownAt
@@ -506,8 +608,11 @@ shown-in b at n i h l = go (leb (at + n) 56) (leb 100 at) (leb (at + n) 118) (le
     set : leb 300 at ≡ true → leb (at + n) 400 ≡ true → Shows b (at + i)
     set e f =
         let p = leb-true 300 at e in
-        let q = leb-true (at + n) 400 f in
-        (rw (lt-leb (at + i) 55 (omega arith), le-leb 100 (at + i) (omega arith), lt-leb (at + i) 117 (omega arith), le-leb 300 (at + i) (omega arith), le-leb (at + i) 399 (omega arith)), omega arith)
+        let q = leb-true (at + n) 400 f in (
+          rw (lt-leb (at + i) 55 (omega arith), le-leb 100 (at + i) (omega arith), lt-leb (at + i) 117 (omega arith))
+              (rw (le-leb 300 (at + i) (omega arith), le-leb (at + i) 399 (omega arith))),
+          omega arith,
+        )
 
     go : (a c d f g : Bool) → leb (at + n) 56 ≡ a → leb 100 at ≡ c → leb (at + n) 118 ≡ d → leb 300 at ≡ f → leb (at + n) 400 ≡ g
         → a || c && d || f && g ≡ true → Shows b (at + i)
@@ -520,14 +625,15 @@ shown-in b at n i h l = go (leb (at + n) 56) (leb 100 at) (leb (at + n) 118) (le
     go false false d true false e₁ e₂ e₃ e₄ e₅ k = absurd (false≢true k)
     go false false d false g e₁ e₂ e₃ e₄ e₅ k = absurd (false≢true k)
 
-pub registers-shown : (b : Board) (s : List ℕ) (q : Query) (i : ℕ) → requestOf s ≡ request.Read q → i < namedBy q → Shows b (registerIn s q i)
+pub registers-shown : (b : Board) (s : List ℕ) (q : Query) (i : ℕ) → requestOf s ≡ request.Read q → i < namedBy q
+    → Shows b (registerIn s q i)
 unfolding readsInRange inRange namedBy registerIn
 registers-shown b s q i e l = go q (rw e at (sound s .in-range)) l
   where
     go : (q : Query) → inRange s q ≡ true → i < namedBy q → Shows b (registerIn s q i)
     go (Registers command at n) h l = shown-in b at n i h l
     go (Listed n) h l = subst (Shows b) (add-zero (addressAt s i)) (shown-in b (addressAt s i) 1 0 (each-shown s n i h l) (omega arith))
-    go (Live command at n) h l = shown-in b at n i h l
+    go (Bare command at n) h l = shown-in b at n i h l
     go NewEvents h l = absurd (omega arith)
     go AllEvents h l = absurd (omega arith)
     go Temperatures h l = absurd (omega arith)

@@ -12,4 +12,4 @@ pub mod Rounding
 pub mod RawLine
 pub mod Streams
 pub mod SerialLine
-pub mod PackMemory
+pub mod SavedEvents

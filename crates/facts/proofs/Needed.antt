@@ -1,6 +1,6 @@
--- The hypotheses of demand 3 are needed: with 299 quiet ticks, without equal counts of ticks, without equal waits and without equal memories
--- the demand is false of our board; two histories and the calls that tell them apart, computed. And the second alternative is met with a
--- condition latched.
+-- The hypotheses of demand 3 are needed: with 299 quiet ticks, without equal counts of ticks, without equal waits and without equal
+-- memories the demand is false of our board; two histories and the calls that tell them apart, computed. And the second alternative is met
+-- with a condition latched.
 -- Assumes nothing.
 use mathlib.Core.Path.{_≡_, refl, sym, ap}
 use mathlib.Core.Bool.{true, false, false≢true}
@@ -41,7 +41,8 @@ needs-ticks alike =
 -- ---- equal waits
 
 -- DOC held one tick later, and recovers one tick later
-pub needs-waits : ¬ Alike board (λ h k. (settingsAt h ≡ settingsAt k) × (clockAt h ≡ clockAt k) × (latchedAt h ≡ latchedAt k) × (rememberedAt h ≡ rememberedAt k))
+pub needs-waits : ¬ Alike board
+    (λ h k. (settingsAt h ≡ settingsAt k) × (clockAt h ≡ clockAt k) × (latchedAt h ≡ latchedAt k) × (rememberedAt h ≡ rememberedAt k))
 unfolding accounted
 needs-waits alike =
     let e = alike 4 2000 (drawn ∷ still ∷ []) (still ∷ drawn ∷ []) (replicate 49 still) (refl, refl, refl, refl) in
@@ -51,15 +52,19 @@ needs-waits alike =
 -- ---- equal memories
 
 -- OT latched by the internal sensor, with both externals connected and with neither: without them only the second recovers
-pub needs-memory : ¬ Alike board (λ h k. (settingsAt h ≡ settingsAt k) × (clockAt h ≡ clockAt k) × (latchedAt h ≡ latchedAt k) × (waitsAt h ≡ waitsAt k))
+pub needs-memory : ¬ Alike board
+    (λ h k. (settingsAt h ≡ settingsAt k) × (clockAt h ≡ clockAt k) × (latchedAt h ≡ latchedAt k) × (waitsAt h ≡ waitsAt k))
 unfolding accounted
 needs-memory alike =
-    let e = alike 4 2000 (warmed (pos 600) (pos 200) (pos 200) ∷ []) (warmed (pos 600) unplugged unplugged ∷ []) (warmed (pos 200) unplugged unplugged ∷ []) (refl, refl, refl, refl) in
+    let e = alike 4 2000 (warmed (pos 600) (pos 200) (pos 200) ∷ []) (warmed (pos 600) unplugged unplugged ∷ [])
+    (warmed (pos 200) unplugged unplugged ∷ []) (refl, refl, refl, refl) in
     let z : false ≡ true = ap (λ (answers : List Seen). answerAt 1 answers .discharge) e in
     absurd (false≢true z)
 
 -- ---- a condition latched at the handover is no hindrance
 
-pub with-a-latch : SameKept (deeds 4 2000 (flow (negsuc 59999) 100 false ∷ [])) (deeds 4 2000 (drawn ∷ [])) × (latchedAt (deeds 4 2000 (drawn ∷ [])) .doc ≡ true)
+pub with-a-latch :
+    SameKept (deeds 4 2000 (flow (negsuc 59999) 100 false ∷ [])) (deeds 4 2000 (drawn ∷ []))
+    × (latchedAt (deeds 4 2000 (drawn ∷ [])) .doc ≡ true)
 unfolding accounted
 with-a-latch = (record { settings = refl; clock = refl; latched = refl; waits = refl; remembered = refl }, refl)

@@ -1,33 +1,37 @@
--- The loop at the end of a serial line, as crate `port` defines it, loses no byte and says exactly the replies: from a usable board to which
--- nothing was offered yet, for any reads in a row, its replies are, one after the other, `frame`'s own to the frames of the whole stream. Why: its
--- turns are a cutting of the stream (RawLine), a turn on a board that holds no frame takes a byte at least, and the bytes told to be a reply are the
--- reply (`port`, Exact). What the code lends to be written no contract ties to it: docs/PROMISES.md.
+-- The loop at the end of a serial line, as crate `port` defines it, loses no byte and says exactly the replies: from a usable board to
+-- which nothing was offered yet, for any reads in a row, its replies are, one after the other, `frame`'s own to the frames of the whole
+-- stream. Why: its turns are a cutting of the stream (RawLine), a turn on a board that holds no frame takes a byte at least, and the bytes
+-- told to be a reply are the reply (`port`, Exact). What the code lends to be written no contract ties to it: docs/PROMISES.md.
 -- Assumes nothing.
-use mathlib.Core.Path.{_≡_, refl, sym, ap, ap₂, _∙_, subst}
-use mathlib.Core.Bool.{Bool, true, false, cond}
+use mathlib.Core.Path.{_≡_, refl, sym, ap, ap₂, _∙_, subst, subst⁻¹}
+use mathlib.Core.Bool.{Bool, true, false, _&&_, cond}
 use mathlib.Core.List.{List, [], _∷_, _++_, flatten, map, append-assoc, append-nil}
-use Prim.Native.Nat.{ℕ, zero, suc, _+_, _-_, _≤_, _<_, min}
+use Prim.Native.Nat.{ℕ, zero, suc, _+_, _≤_, _<_}
 use native.Mathlib.Nat.{not-suc-le-zero}
 use native.Mathlib.Omega.{arith}
-use lib.Dec.{eqb, ltb}
-use lib.ListN.{length, take, drop, length-drop, length-append}
+use lib.ListN.{length, take, drop, length-drop}
 use lib.Seq.{take-append-add, drop-append-le, take-all}
+use Rattle.refusals.specs.declared.Refusal.the-variants.{FrameHeld}
+use Rattle.refusals.specs.declared.Outcome.{Outcome}
+use Rattle.refusals.specs.declared.Outcome.the-variants.{Done, Refused}
+use Rattle.refusals.specs.Refusals.{first}
 use Rattle.receiver.specs.declared.Receiver.{Receiver}
-use Rattle.receiver.specs.declared.Offered.{Offered}
-use Rattle.receiver.specs.Receiver.{noBytes, heldOf, isHeld, withByte, taken, filled, offeredOf}
+use Rattle.receiver.specs.Receiver.{noBytes, isHeld, withByte, taken, offeredBy, offeredOf}
 use Rattle.receiver.specs.Line.{Turn, offers, fetches, cut, repliesTo, after}
 use Rattle.receiver.proofs.Through.{none-held}
 use Rattle.requests.specs.Requests.{requestOf}
-use Rattle.wire.specs.Wire.{padded}
+use Rattle.replies.specs.Replies.{padded}
+use Rattle.answers.specs.Answers.{acceptedReply, replyBy, askedReply}
+use Rattle.answers.proofs.Made.{reply-length}
 use Rattle.board.specs.declared.Board.{Board}
 use Rattle.board.specs.State.{usable, withReceiver}
-use Rattle.board.specs.Frames.{requestReply, frameNumber, frameBoard, frameReply}
-use Rattle.board.specs.Line.{heldIn, holds, offerOf, fetchNumber, fetchBoard, fetchReply}
-use Rattle.board.specs.Calls.{offer, fetch, step}
-use Rattle.board.proofs.Replies.{reply-length}
+use Rattle.board.specs.Line.{heldIn, holds}
+use Rattle.board.specs.Calls as calls
+use Rattle.board.specs.Calls.{frame, offer, fetch, replyLent, shape, outcomeOf, seenOf, outcomeIn, bufferAfter, carriedBy}
 use Rattle.port.specs.Port.{lengthIn, bufferOf, turnOf, Served, turnsOf, servedOf}
 use Rattle.port.proofs.Exact.{padded-length, none, exact}
-use Rattle.facts.proofs.RawLine.{Reply, answer, Ran, replied, isReply, runs, Ended, is-reply, frame-usable, any-cutting}
+use Rattle.facts.proofs.RawLine.{Reply, answer, Ran, replied, isReply, runs, is-reply, frame-usable, frame-whole}
+use Rattle.facts.proofs.RawLine.{offered, fetch-whole, fetched-board, not-answered, any-cutting}
 
 -- ---- what is stated
 
@@ -42,7 +46,7 @@ boardAfter b (bytes ∷ more) = boardAfter (servedOf b bytes .board) more
 
 -- a frame's board, and the bytes of its reply alone
 abbrev pub replyOf : Board → List ℕ → Board × List ℕ
-replyOf b s = (frameBoard b s 259, requestReply b s (requestOf s))
+replyOf b s = (calls.boardAfter b (frame s 259), askedReply (b .pack) (b .hire) s (requestOf s))
 
 pub record Serves (b : Board) (reads : List (List ℕ)) : Type 0 where
   pub replies : written b reads ≡ flatten (repliesTo replyOf b (cut 0 (flatten reads) .frames))
@@ -63,32 +67,33 @@ taken-within (b ∷ bs) r = go (isHeld r) (taken-within bs (withByte r b))
     go false h = omega arith
 
 -- a buffer that the board fills has as many bytes as there is room
-filled-whole : (b : Board) (s : List ℕ) → take 259 (padded 259 (requestReply b s (requestOf s))) ≡ padded 259 (requestReply b s (requestOf s))
+filled-whole : (b : Board) (s : List ℕ) → take 259 (padded 259 (replyOf b s .1)) ≡ padded 259 (replyOf b s .1)
 filled-whole b s =
-    let e = padded-length 259 (requestReply b s (requestOf s)) (reply-length b s (requestOf s)) in
-    take-all 259 (padded 259 (requestReply b s (requestOf s))) (omega (arith, e))
+    let e = padded-length 259 (replyOf b s .1) (reply-length (b .pack) (b .hire) s (requestOf s)) in
+    take-all 259 (padded 259 (replyOf b s .1)) (omega (arith, e))
 
 abbrev heard : Board → List ℕ → Board
-heard b bytes = offerOf b bytes .board
+heard b bytes = calls.boardAfter b (offer bytes)
 
 module _ (b : Board) (some : usable b ≡ true) (bytes : List ℕ) where
-  within : offerOf b bytes .taken ≤ length bytes
-  unfolding offerOf offeredOf
-  within = rw some (go (isHeld (b .hire .receiver)) (taken-within bytes (b .hire .receiver)))
+  within : carriedBy b (offer bytes) ≤ length bytes
+  unfolding offeredOf first
+  within =
+      subst⁻¹ (λ (n : ℕ). n ≤ length bytes) (offered b bytes some .1)
+      (go (isHeld (b .hire .receiver)) (taken-within bytes (b .hire .receiver)))
     where
       go : (t : Bool) → taken (b .hire .receiver) bytes ≤ length bytes
-          → cond {A = Offered} t (record { number = 6; taken = 0; receiver = b .hire .receiver }) (record { number = 0; taken = taken (b .hire .receiver) bytes; receiver = filled (b .hire .receiver) bytes }) .taken ≤ length bytes
+          → offeredBy (cond t (Refused FrameHeld) Done) (b .hire .receiver) bytes .taken ≤ length bytes
       go true h = omega arith
       go false h = h
 
   heard-usable : usable (heard b bytes) ≡ true
-  unfolding offerOf
-  heard-usable = rw some some
+  heard-usable = ap usable (offered b bytes some .0) ∙ some
 
   -- a turn on a board that holds nothing takes a byte at least
-  moves : holds b ≡ false → 0 < length bytes → 0 < offerOf b bytes .taken
-  unfolding offerOf offeredOf
-  moves none l = rw (some, none) (go bytes l)
+  moves : holds b ≡ false → 0 < length bytes → 0 < carriedBy b (offer bytes)
+  unfolding offeredOf first
+  moves none l = subst⁻¹ (λ (n : ℕ). 0 < n) (offered b bytes some .1) (rw none (go bytes l))
     where
       go : (bytes : List ℕ) → 0 < length bytes → 0 < taken (b .hire .receiver) bytes
       go [] l = absurd (not-suc-le-zero l)
@@ -96,29 +101,39 @@ module _ (b : Board) (some : usable b ≡ true) (bytes : List ℕ) where
 
 -- the fetch: a held frame is answered and let go; where none is held nothing is said and nothing changes
 module _ (h : Board) (some : usable h ≡ true) where
-  said-held : holds h ≡ true → (isReply (fetchNumber h 259) ≡ true) × (take 259 (fetchReply h 259) ≡ fetchReply h 259)
-  unfolding fetchNumber fetchReply frameNumber frameReply
-  said-held e = (rw (some, e) (is-reply h (heldIn h) (requestOf (heldIn h))), rw (some, e) (filled-whole h (heldIn h)))
+  said-held : holds h ≡ true
+      → (isReply (outcomeIn h (fetch 259)) ≡ true) × (take 259 (bufferAfter h (fetch 259)) ≡ bufferAfter h (fetch 259))
+  unfolding shape seenOf
+  said-held e =
+      let s = heldIn h in
+      let k = fetch-whole h (h .hire .receiver) some 259 refl e in
+      let filled = ap (seenOf (replyLent s 259 (acceptedReply (h .pack) (h .hire) s (requestOf s)))) k in
+      (ap isReply k ∙ is-reply h s, ap (take 259) filled ∙ filled-whole h s ∙ sym filled)
 
-  said-none : holds h ≡ false → (isReply (fetchNumber h 259) ≡ false) × (told (fetchReply h 259) ≡ [])
-  unfolding fetchNumber fetchReply
+  said-none : holds h ≡ false → (isReply (outcomeIn h (fetch 259)) ≡ false) × (told (bufferAfter h (fetch 259)) ≡ [])
+  unfolding shape outcomeOf first seenOf replyBy
   said-none e = (rw (some, e) refl, rw (some, e) (none 259))
 
-  next-usable : usable (fetchBoard h 259) ≡ true
-  unfolding fetchBoard
-  next-usable = rw some (go (holds h))
-    where
-      go : (t : Bool) → usable (cond t (withReceiver (frameBoard h (heldIn h) 259) noBytes) h) ≡ true
-      go true = frame-usable h (heldIn h) 259 ∙ some
-      go false = some
+  -- where none is held the board is as it was
+  stays : holds h ≡ false → calls.boardAfter h (fetch 259) ≡ h
+  stays e = not-answered h (h .hire .receiver) some 259 (ap (λ (t : Bool). true && t) e) .1
 
-  let-go : holds (fetchBoard h 259) ≡ false
-  unfolding fetchBoard
-  let-go = rw some (go (holds h) refl)
+  goes : holds h ≡ true → calls.boardAfter h (fetch 259) ≡ withReceiver (calls.boardAfter h (frame (heldIn h) 259)) noBytes
+  goes e = fetched-board h (h .hire .receiver) some 259 refl e
+
+  next-usable : usable (calls.boardAfter h (fetch 259)) ≡ true
+  next-usable = go (holds h) refl
     where
-      go : (t : Bool) → holds h ≡ t → holds (cond t (withReceiver (frameBoard h (heldIn h) 259) noBytes) h) ≡ false
-      go true e = none-held
-      go false e = e
+      go : (t : Bool) → holds h ≡ t → usable (calls.boardAfter h (fetch 259)) ≡ true
+      go true e = ap usable (goes e) ∙ frame-usable h (heldIn h) 259 ∙ some
+      go false e = ap usable (stays e) ∙ some
+
+  let-go : holds (calls.boardAfter h (fetch 259)) ≡ false
+  let-go = go (holds h) refl
+    where
+      go : (t : Bool) → holds h ≡ t → holds (calls.boardAfter h (fetch 259)) ≡ false
+      go true e = ap holds (goes e) ∙ none-held
+      go false e = ap holds (stays e) ∙ e
 
 -- ---- turns as a cutting
 
@@ -137,24 +152,40 @@ record Same (words : List ℕ) (r q : Ran) : Type 0 where
   board : r .board ≡ q .board
   left : r .left ≡ q .left
 
+-- a fetch says its reply where it is answered, else nothing
+one-fetch : (t : Bool) (o : Outcome) (bytes : List ℕ) (next : Ran) {words : List ℕ} → cond t (told bytes) [] ≡ words
+    → Same words (cond t (replied (o, bytes) next) next) next
+unfolding flatten
+one-fetch true o bytes next e = record { said = ap (λ (l : List ℕ). l ++ said next) e; board = refl; left = refl }
+one-fetch false o bytes next e = record { said = ap (λ (l : List ℕ). l ++ said next) e; board = refl; left = refl }
+
 one-turn : (b : Board) (bytes more : List ℕ) (ts : List Turn) → usable b ≡ true
-    → Same (told (bufferOf b bytes 259)) (runs (offers (length bytes) ∷ fetches 259 ∷ ts) b (bytes ++ more)) (runs ts (turnOf b bytes 259 .board) (drop (turnOf b bytes 259 .taken) bytes ++ more))
-unfolding step flatten
+    → Same (told (bufferOf b bytes 259)) (runs (offers (length bytes) ∷ fetches 259 ∷ ts) b (bytes ++ more))
+    (runs ts (turnOf b bytes 259 .board) (drop (turnOf b bytes 259 .taken) bytes ++ more))
+unfolding flatten
 one-turn b bytes more ts some =
     let whole : take (length bytes) (bytes ++ more) ≡ bytes =
-    (let e : length bytes ≡ length bytes + 0 = omega arith in ap (λ (k : ℕ). take k (bytes ++ more)) e) ∙ take-append-add bytes more 0 ∙ append-nil bytes
+    (let e : length bytes ≡ length bytes + 0 = omega arith in ap (λ (k : ℕ). take k (bytes ++ more)) e)
+    ∙ take-append-add bytes more 0
+    ∙ append-nil bytes
     in
-    let rest : drop (offerOf b bytes .taken) (bytes ++ more) ≡ drop (offerOf b bytes .taken) bytes ++ more = drop-append-le _ bytes more (within b some bytes) in
-    rw (whole, rest) (go (heard b bytes) (heard-usable b some bytes) (drop (offerOf b bytes .taken) bytes ++ more))
+    let rest : drop (carriedBy b (offer bytes)) (bytes ++ more) ≡ drop (carriedBy b (offer bytes)) bytes ++ more =
+    drop-append-le _ bytes more (within b some bytes) in
+    rw (whole, rest) (go (heard b bytes) (heard-usable b some bytes) (drop (carriedBy b (offer bytes)) bytes ++ more))
   where
     go : (h : Board) → usable h ≡ true → (left : List ℕ)
-        → Same (told (fetchReply h 259)) (cond (isReply (fetchNumber h 259)) (replied (fetchNumber h 259, take 259 (fetchReply h 259)) (runs ts (fetchBoard h 259) left)) (runs ts (fetchBoard h 259) left)) (runs ts (fetchBoard h 259) left)
-    go h some left = by-held (holds h) refl
+        → Same (told (bufferAfter h (fetch 259))) (runs (fetches 259 ∷ ts) h left) (runs ts (calls.boardAfter h (fetch 259)) left)
+    go h some left =
+        let o = outcomeIn h (fetch 259) in
+        one-fetch (isReply o) o (take 259 (bufferAfter h (fetch 259))) _ (by-held (holds h) refl)
       where
         by-held : (t : Bool) → holds h ≡ t
-            → Same (told (fetchReply h 259)) (cond (isReply (fetchNumber h 259)) (replied (fetchNumber h 259, take 259 (fetchReply h 259)) (runs ts (fetchBoard h 259) left)) (runs ts (fetchBoard h 259) left)) (runs ts (fetchBoard h 259) left)
-        by-held true e = let w = said-held h some e in rw (w .0, w .1) (record { said = refl; board = refl; left = refl })
-        by-held false e = let w = said-none h some e in rw (w .0, w .1) (record { said = refl; board = refl; left = refl })
+            → cond (isReply (outcomeIn h (fetch 259))) (told (take 259 (bufferAfter h (fetch 259)))) [] ≡ told (bufferAfter h (fetch 259))
+        by-held true e =
+            let w = said-held h some e in ap₂ (λ (t : Bool) (bytes : List ℕ). cond t (told bytes) []) (w .0) (w .1)
+        by-held false e =
+            let w = said-none h some e in
+            ap (λ (t : Bool). cond t (told (take 259 (bufferAfter h (fetch 259)))) []) (w .0) ∙ sym (w .1)
 
 joined : {w v : List ℕ} {r q p : Ran} → Same w r q → Same v q p → Same (w ++ v) r p
 joined {w} {v} {r} {q} {p} f g =
@@ -165,7 +196,8 @@ joined {w} {v} {r} {q} {p} f g =
     }
 
 turns : (n : ℕ) (b : Board) (bytes more : List ℕ) (ts : List Turn) → usable b ≡ true
-    → Same (flatten (turnsOf n b bytes .replies)) (runs (turnList n b bytes ++ ts) b (bytes ++ more)) (runs ts (turnsOf n b bytes .board) (turnsOf n b bytes .left ++ more))
+    → Same (flatten (turnsOf n b bytes .replies)) (runs (turnList n b bytes ++ ts) b (bytes ++ more))
+    (runs ts (turnsOf n b bytes .board) (turnsOf n b bytes .left ++ more))
 unfolding turnsOf turnList flatten
 turns zero b bytes more ts some = record { said = refl; board = refl; left = refl }
 turns (suc n) b [] more ts some = record { said = refl; board = refl; left = refl }
@@ -190,7 +222,8 @@ through (suc n) b (x ∷ xs) some free l =
     let h = heard b (x ∷ xs) in
     let ok = heard-usable b some (x ∷ xs) in
     let m = moves b some (x ∷ xs) free (omega arith) in
-    let i = through n (fetchBoard h 259) (drop (offerOf b (x ∷ xs) .taken) (x ∷ xs)) (next-usable h ok) (let-go h ok) (simp length-drop (omega (arith, m, l))) in
+    let i = through n (calls.boardAfter h (fetch 259)) (drop (carriedBy b (offer (x ∷ xs))) (x ∷ xs)) (next-usable h ok) (let-go h ok)
+    (simp length-drop (omega (arith, m, l))) in
     record { left = i .left; free = i .free; usable = i .usable }
 
 allTurns : Board → List (List ℕ) → List Turn
@@ -206,21 +239,25 @@ unfolding allTurns flatten servedOf
 all [] b some free = (record { said = refl; board = refl; left = refl }, free)
 all (bytes ∷ more) b some free =
     let t = through (suc (length bytes)) b bytes some free (omega arith) in
-    let i = all more (turnsOf (suc (length bytes)) b bytes .board) (t .usable) (t .free) in
-    (joined (rw (t .left) at (turns (suc (length bytes)) b bytes (flatten more) (allTurns (turnsOf (suc (length bytes)) b bytes .board) more) some)) (i .0), i .1)
+    let next = turnsOf (suc (length bytes)) b bytes .board in
+    let i = all more next (t .usable) (t .free) in
+    (joined (rw (t .left) at (turns (suc (length bytes)) b bytes (flatten more) (allTurns next more) some)) (i .0), i .1)
 
 -- ---- the theorem
 
 -- the bytes of each reply, without the zeros after it
-exactly : (fs : List (List ℕ)) (b : Board) → usable b ≡ true → map (λ (a : Reply). told (a .1)) (repliesTo answer b fs) ≡ repliesTo replyOf b fs
-unfolding frameReply
+exactly : (fs : List (List ℕ)) (b : Board) → usable b ≡ true
+    → map (λ (a : Reply). told (a .1)) (repliesTo answer b fs) ≡ repliesTo replyOf b fs
+unfolding shape seenOf
 exactly [] b some = refl
 exactly (f ∷ fs) b some =
-    ap₂ (λ (x : List ℕ) (xs : List (List ℕ)). x ∷ xs) (rw some (exact b f 259 (omega arith))) (exactly fs (frameBoard b f 259) (frame-usable b f 259 ∙ some))
+    let filled = ap (seenOf (replyLent f 259 (acceptedReply (b .pack) (b .hire) f (requestOf f)))) (frame-whole b f 259 some refl) in
+    ap₂ (λ (x : List ℕ) (xs : List (List ℕ)). x ∷ xs) (ap told filled ∙ exact (b .pack) (b .hire) f 259 (omega arith))
+    (exactly fs (calls.boardAfter b (frame f 259)) (frame-usable b f 259 ∙ some))
 
 same-board : (fs : List (List ℕ)) (b : Board) → after answer b fs ≡ after replyOf b fs
 same-board [] b = refl
-same-board (f ∷ fs) b = same-board fs (frameBoard b f 259)
+same-board (f ∷ fs) b = same-board fs (calls.boardAfter b (frame f 259))
 
 pub serves : (b : Board) (reads : List (List ℕ)) → usable b ≡ true → b .hire .receiver ≡ noBytes → Serves b reads
 unfolding flatten
@@ -238,6 +275,7 @@ serves b reads some none =
           ∙ ap flatten (exactly frames b some);
       board =
           subst (λ (x : Board). x ≡ withReceiver (after replyOf b frames) (x .hire .receiver)) (s .board)
-          (whole .board ∙ ap (λ (x : Board). withReceiver x (runs (allTurns b reads) b (flatten reads) .board .hire .receiver)) (same-board frames b));
+          (whole .board
+          ∙ ap (λ (x : Board). withReceiver x (runs (allTurns b reads) b (flatten reads) .board .hire .receiver)) (same-board frames b));
       held = sym (ap heldIn (s .board)) ∙ whole .held;
     }

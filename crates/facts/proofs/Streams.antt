@@ -4,18 +4,21 @@ use mathlib.Core.Path.{_≡_, refl}
 use mathlib.Core.List.{List, [], _∷_, _++_, map}
 use Prim.Native.Nat.{ℕ}
 use lib.ListN.{length, take, drop, replicate}
-use Rattle.wire.specs.Wire.{sealed}
+use Rattle.refusals.specs.declared.Refusal.the-variants.{NoRoom, Damaged, WrongField, FrameHeld, NoFrameHeld}
+use Rattle.refusals.specs.declared.Outcome.{Outcome}
+use Rattle.refusals.specs.declared.Outcome.the-variants.{Done, Refused}
+use Rattle.replies.specs.Replies.{sealed}
 use Rattle.board.specs.Start.{startBoard}
 use Rattle.board.specs.Calls.{Call, Seen, offer, fetch, handover}
 use Rattle.board.specs.Behaviour.{board, answersIn}
 use Rattle.board.proofs.Opened.{opened}
 
--- what calls are answered on a new board of 4 cells; of each the number and the bytes taken
+-- what calls are answered on a new board of 4 cells; of each what it came to and the bytes taken
 abbrev answers : List Call → List Seen
 answers cs = answersIn board (startBoard 4 2000) cs
 
-abbrev told : List Call → List (ℕ × ℕ)
-told cs = map (λ a. (a .number, a .taken)) (answers cs)
+abbrev told : List Call → List (Outcome × ℕ)
+told cs = map (λ a. (a .outcome, a .carried)) (answers cs)
 
 abbrev idle : List ℕ
 idle = 0xAA ∷ 0x18 ∷ 0x7F ∷ 0x1A ∷ []
@@ -32,29 +35,31 @@ bytewise = map (λ b. offer (b ∷ [])) longest ++ (fetch 259 ∷ offer idle ∷
 
 the-longest :
     (length longest ≡ 264)
-    × (told bytewise ≡ replicate 264 (0, 1) ++ ((4, 0) ∷ (0, 4) ∷ (0, 0) ∷ []))
+    × (told bytewise ≡ replicate 264 (Done, 1) ++ ((Refused WrongField, 0) ∷ (Done, 4) ∷ (Done, 0) ∷ []))
     × (map (λ a. take 6 (a .buffer)) (drop 264 (answers bytewise))
     ≡ (0xAA ∷ 0x00 ∷ 0x10 ∷ 0x00 ∷ 0x2C ∷ 0x3C ∷ []) ∷ [] ∷ (0xAA ∷ 0x18 ∷ 0x97 ∷ 0x00 ∷ 0xCF ∷ 0xCB ∷ []) ∷ [])
 unfolding opened longest bytewise
 the-longest = (refl, refl, refl)
 
--- ---- numbers, and what is taken
+-- ---- what calls come to, and what is taken
 
 -- noise is skipped and counted; bytes after the frame are not taken; 6 while it is held, 1 with too little room, 7 when it is gone
 pub held-until-fetched :
     told (offer (0x00 ∷ 0x18 ∷ [] ++ idle ++ idle) ∷ offer [] ∷ fetch 258 ∷ fetch 259 ∷ fetch 259 ∷ fetch 258 ∷ [])
-    ≡ (0, 6) ∷ (6, 0) ∷ (1, 0) ∷ (0, 0) ∷ (7, 0) ∷ (1, 0) ∷ []
+    ≡ (Done, 6) ∷ (Refused FrameHeld, 0) ∷ (Refused NoRoom, 0) ∷ (Done, 0) ∷ (Refused NoFrameHeld, 0) ∷ (Refused NoRoom, 0) ∷ []
 unfolding opened
 held-until-fetched = refl
 
 -- a frame with a bad CRC is answered and all its bytes are used up
-pub used-up : told (offer (0xAA ∷ 0x18 ∷ 0x7F ∷ 0x1B ∷ idle) ∷ fetch 259 ∷ offer idle ∷ fetch 259 ∷ []) ≡ (0, 4) ∷ (3, 0) ∷ (0, 4) ∷ (0, 0) ∷ []
+pub used-up :
+    told (offer (0xAA ∷ 0x18 ∷ 0x7F ∷ 0x1B ∷ idle) ∷ fetch 259 ∷ offer idle ∷ fetch 259 ∷ [])
+    ≡ (Done, 4) ∷ (Refused Damaged, 0) ∷ (Done, 4) ∷ (Done, 0) ∷ []
 unfolding opened
 used-up = refl
 
 -- a handover drops an unfinished and a held frame
 pub dropped :
     told (offer (0xAA ∷ 0x18 ∷ []) ∷ handover ∷ offer (0x7F ∷ 0x1A ∷ []) ∷ fetch 259 ∷ offer idle ∷ handover ∷ fetch 259 ∷ [])
-    ≡ (0, 2) ∷ (0, 0) ∷ (0, 2) ∷ (7, 0) ∷ (0, 4) ∷ (0, 0) ∷ (7, 0) ∷ []
+    ≡ (Done, 2) ∷ (Done, 0) ∷ (Done, 2) ∷ (Refused NoFrameHeld, 0) ∷ (Done, 4) ∷ (Done, 0) ∷ (Refused NoFrameHeld, 0) ∷ []
 unfolding opened
 dropped = refl

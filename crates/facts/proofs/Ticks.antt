@@ -8,25 +8,26 @@ use lib.IntN.{ℤ, pos, negsuc}
 use lib.ListN.{replicate}
 use Rattle.laws.specs.Fold.{shifted, packed}
 use Rattle.events.specs.declared.Event.{Event}
-use Rattle.events.specs.Events.{eventAt, numberOf as eventNumber, latest, keptOf, noEvents, addOf}
+use Rattle.events.specs.Events.{numberOf as eventNumber, latest, keptOf, noEvents, addOf}
 use Rattle.guard.specs.declared.Conditions.{Conditions}
 use Rattle.guard.specs.Guard.{holdsOf, waitsOf, recoversOf, latchedOf, guardOf}
 use Rattle.guard.specs.Table.{is, chargeOff, dischargeOff, faulty, latchEvent, recoveryEvent, eventOf}
 use Rattle.readings.specs.declared.Readings.{Readings}
-use Rattle.readings.specs.Readings.{judgedOf, numberOf}
-use Rattle.settings.specs.Settings as settings
 use Rattle.statistics.specs.Statistics as statistics
+use Rattle.answers.specs.declared.Shown.the-variants.{Register}
 use Rattle.board.specs.declared.Board.{Board}
-use Rattle.board.specs.declared.Shown.the-variants.{Register}
 use Rattle.hire.specs.Hire.{newHire}
 use Rattle.board.specs.Start.{startBoard, startOf}
-use Rattle.hire.specs.Tick.{statusFor}
-use Rattle.pack.specs.Pack.{newPack, laterOf, tickNumber}
-use Rattle.board.specs.Tick.{tickOf}
-use Rattle.hire.specs.Registers.{liveRegister}
-use Rattle.board.specs.Registers.{shownAt}
-use Rattle.board.specs.Handover.{handedOver, handoverOf}
+use Rattle.refusals.specs.declared.Outcome.the-variants.{Done}
+use Rattle.refusals.specs.Refusals.{first}
+use Rattle.hire.specs.Tick.{eventsOf, recordedAll, statusFor}
+use Rattle.pack.specs.Pack.{newPack, laterOf}
+use Rattle.board.specs.Calls.{tick, handover, shape, outcomeOf, boardBy, outcomeIn, boardAfter}
+use Rattle.hire.specs.Registers.{readingRegister}
+use Rattle.answers.specs.Registers.{shownAt}
+use Rattle.board.specs.Handover.{handedOver}
 use Rattle.board.proofs.Opened.{steps}
+use Rattle.facts.proofs.Calls.{readingOf, shownBy}
 
 -- ---- ticks
 
@@ -34,15 +35,9 @@ use Rattle.board.proofs.Opened.{steps}
 abbrev pub Moment : Type 0
 Moment = List ℕ × Readings
 
--- current, internal temperature, both external ones, pulses, charger
-unfoldable pub reading : ℤ → ℤ → ℤ → ℕ → Bool → Readings
-reading current internal external pulses charger =
-    record { current = current; internal = internal; external1 = external; external2 = external; pulses = pulses; charger = charger; ignition = false }
-
 -- level cells at 20 °C, with that current, those pulses and that charger
 unfoldable pub calm : ℤ → ℕ → Bool → Moment
-unfolding reading
-calm current pulses charger = (replicate 4 37000, reading current (pos 200) (pos 200) pulses charger)
+calm current pulses charger = (replicate 4 37000, readingOf current (pos 200) (pos 200) (pos 200) pulses charger)
 
 -- a quiet tick, and ones that differ from it in the current, in the pulses, in the charger
 unfoldable pub still : Moment
@@ -73,8 +68,7 @@ drawn = flow (negsuc 59999)
 
 -- UV, OV, OT and LT hold, each just at its limit
 unfoldable pub storm : ℤ → Bool → Moment
-unfolding reading
-storm current charger = (29000 ∷ 42000 ∷ 37000 ∷ 37000 ∷ [], reading current (pos 600) (pos 0) 0 charger)
+storm current charger = (29000 ∷ 42000 ∷ 37000 ∷ 37000 ∷ [], readingOf current (pos 600) (pos 0) (pos 0) 0 charger)
 
 -- n of them, two in turn
 unfoldable pub alternately : {A : Type 0} → ℕ → A → A → List A
@@ -90,9 +84,10 @@ fresh = startOf 4 2000 .board
 
 -- the board after ticks; `unfolding after` opens all that a tick goes through
 unfoldable pub after : Board → List Moment → Board
-unfolding tickOf tickNumber steps laterOf statusFor judgedOf numberOf guardOf holdsOf waitsOf recoversOf latchedOf is eventOf latchEvent recoveryEvent faulty chargeOff dischargeOff addOf shifted packed statistics.riddenOf statistics.countedOf statistics.countsOf
+unfolding shape outcomeOf first boardBy steps laterOf statusFor guardOf holdsOf waitsOf recoversOf latchedOf is eventOf eventsOf recordedAll
+    latchEvent recoveryEvent faulty chargeOff dischargeOff addOf shifted packed statistics.riddenOf statistics.countedOf statistics.countsOf
 after b [] = b
-after b (m ∷ ms) = after (tickOf b (m .0) (m .1) .board) ms
+after b (m ∷ ms) = after (boardAfter b (tick (m .0) (m .1))) ms
 
 unfoldable pub latched : Board → Conditions
 latched b = b .pack .guard .latched
@@ -108,13 +103,13 @@ recorded b = map eventNumber (kept b)
 
 -- ---- the facts
 
--- number 0, done: none of the ticks below is refused (the number looks at the start numbers and the readings alone)
+-- done: none of the ticks below is refused (its rows look at the start numbers and the readings alone)
 pub accepted :
-    map (λ m. tickOf fresh (m .0) (m .1) .number)
+    map (λ m. outcomeIn fresh (tick (m .0) (m .1)))
     (cells 40000 41999 ∷ cells 40000 42000 ∷ cells 40000 41500 ∷ cells 40000 41499 ∷ cells 40000 40150 ∷ cells 40000 40151
     ∷ still ∷ flow (negsuc 59998) ∷ drawn ∷ ridden 1 ∷ ridden 39 ∷ ridden 40 ∷ ridden 400 ∷ plugged true ∷ plugged false
     ∷ storm (negsuc 59999) true ∷ storm (pos 30000) true ∷ storm (pos 30000) false ∷ [])
-    ≡ replicate 18 0
+    ≡ replicate 18 Done
 unfolding fresh after cells drawn ridden plugged storm
 accepted = refl
 
@@ -155,8 +150,8 @@ the-latest-62 = (refl, refl)
 -- 107 DOC latchings (not counting a condition at each tick it holds): three ticks of DOC are one, and three more after its
 -- recovery another
 pub counted-at-latching :
-    (shownAt (after fresh (replicate 3 drawn)) 107 ≡ Register 1)
-    × (shownAt (after fresh (replicate 3 drawn ++ replicate 50 still ++ replicate 3 drawn)) 107 ≡ Register 2)
+    (shownBy (after fresh (replicate 3 drawn)) 107 ≡ Register 1)
+    × (shownBy (after fresh (replicate 3 drawn ++ replicate 50 still ++ replicate 3 drawn)) 107 ≡ Register 2)
 unfolding shownAt statistics.registerOf fresh after drawn still
 counted-at-latching = (refl, refl)
 
@@ -166,16 +161,20 @@ unfolding after fresh storm ridden drawn still
 used = after fresh (storm (pos 30000) true ∷ ridden 400 ∷ drawn ∷ replicate 19 still)
 
 pub handed : Board
-unfolding used handoverOf handedOver newHire noEvents statistics.clearedAt
-handed = handoverOf used .board
+unfolding used shape outcomeOf first boardBy handedOver newHire noEvents statistics.clearedAt
+handed = boardAfter used handover
+
+-- distance and latchings, lifetime at the clear; lifetime and status
+abbrev looked-at : List ℕ
+looked-at = 100 ∷ 105 ∷ 106 ∷ 107 ∷ 108 ∷ 109 ∷ 116 ∷ 32 ∷ 50 ∷ []
 
 -- on a usable board handover never refuses. Events and statistics go to their start values; 116 takes the lifetime; status
 -- becomes 0x97. Kept: the lifetime, latched conditions, waits; COC recovers 29 ticks later, DOC 31
 pub a-handover :
-    (map (shownAt used) (100 ∷ 105 ∷ 106 ∷ 107 ∷ 108 ∷ 109 ∷ 116 ∷ 32 ∷ 50 ∷ []) ≡ map Register (20 ∷ 1 ∷ 1 ∷ 1 ∷ 1 ∷ 1 ∷ 0 ∷ 2 ∷ 0x9B ∷ []))
+    (map (shownBy used) looked-at ≡ map Register (20 ∷ 1 ∷ 1 ∷ 1 ∷ 1 ∷ 1 ∷ 0 ∷ 2 ∷ 0x9B ∷ []))
     × (recorded used ≡ 0x64 ∷ 0x02 ∷ 0x03 ∷ 0x04 ∷ 0x06 ∷ 0x37 ∷ 0x65 ∷ 0x7B ∷ 0x79 ∷ 0x73 ∷ 0x74 ∷ 0x05 ∷ [])
-    × (handoverOf used .number ≡ 0)
-    × (map (shownAt handed) (100 ∷ 105 ∷ 106 ∷ 107 ∷ 108 ∷ 109 ∷ 116 ∷ 32 ∷ 50 ∷ []) ≡ map Register (0 ∷ 0 ∷ 0 ∷ 0 ∷ 0 ∷ 0 ∷ 2 ∷ 2 ∷ 0x97 ∷ []))
+    × (outcomeIn used handover ≡ Done)
+    × (map (shownBy handed) looked-at ≡ map Register (0 ∷ 0 ∷ 0 ∷ 0 ∷ 0 ∷ 0 ∷ 2 ∷ 2 ∷ 0x97 ∷ []))
     × (recorded handed ≡ [])
     × (handed .hire ≡ newHire 2)
     × (handed .pack ≡ used .pack)
@@ -186,5 +185,5 @@ pub a-handover :
     × (recorded (after handed (replicate 28 still)) ≡ [])
     × (recorded (after handed (replicate 30 still)) ≡ 0x76 ∷ [])
     × (recorded (after handed (replicate 31 still)) ≡ 0x76 ∷ 0x77 ∷ [])
-unfolding shownAt liveRegister statistics.registerOf statistics.distanceOf latched recorded used handed
+unfolding shownAt readingRegister statistics.registerOf statistics.distanceOf latched recorded used handed
 a-handover = (refl, refl, refl, refl, refl, refl, refl, refl, refl, refl, refl, refl, refl, refl)

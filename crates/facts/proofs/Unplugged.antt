@@ -22,7 +22,9 @@ numbers cs = recorded (afterIn board (startBoard 4 2000) cs)
 
 -- external 2 is hot, unplugged, back and warm, and cool
 abbrev pulled : List Call
-pulled = warmed (pos 200) (pos 200) (pos 600) ∷ warmed (pos 200) (pos 200) unplugged ∷ warmed (pos 200) (pos 200) (pos 550) ∷ warmed (pos 200) (pos 200) (pos 549) ∷ []
+pulled =
+    warmed (pos 200) (pos 200) (pos 600) ∷ warmed (pos 200) (pos 200) unplugged
+    ∷ warmed (pos 200) (pos 200) (pos 550) ∷ warmed (pos 200) (pos 200) (pos 549) ∷ []
 
 pub record Story : Type 0 where
   -- the mechanic's: OT stays while external 2 is unplugged, and recovers when it is plugged in and cool
@@ -36,17 +38,32 @@ pub record Story : Type 0 where
   pub none-connected : switches (warmed (pos 600) unplugged unplugged ∷ warmed (pos 549) unplugged unplugged ∷ []) ≡ false ∷ true ∷ []
   -- one that is plugged in while OT is latched joins, and must be cool, and connected, too
   pub plugged-in :
-      switches (warmed (pos 600) unplugged unplugged ∷ warmed (pos 200) (pos 550) unplugged ∷ warmed (pos 200) unplugged unplugged ∷ warmed (pos 200) (pos 549) unplugged ∷ [])
+      switches
+      (warmed (pos 600) unplugged unplugged ∷ warmed (pos 200) (pos 550) unplugged
+      ∷ warmed (pos 200) unplugged unplugged ∷ warmed (pos 200) (pos 549) unplugged ∷ [])
       ≡ false ∷ false ∷ false ∷ true ∷ []
   -- kept at handover
   pub handed-over :
-      switches (warmed (pos 200) (pos 200) (pos 600) ∷ handover ∷ warmed (pos 200) (pos 200) unplugged ∷ warmed (pos 200) (pos 200) (pos 200) ∷ [])
+      switches
+      (warmed (pos 200) (pos 200) (pos 600) ∷ handover
+      ∷ warmed (pos 200) (pos 200) unplugged ∷ warmed (pos 200) (pos 200) (pos 200) ∷ [])
       ≡ false ∷ false ∷ false ∷ true ∷ []
   -- emptied at recovery: when OT latches again without it, external 2 is not asked for
   pub latched-again :
-      switches (warmed (pos 200) (pos 200) (pos 600) ∷ warmed (pos 200) (pos 200) (pos 200) ∷ warmed (pos 600) (pos 200) unplugged ∷ warmed (pos 200) (pos 200) unplugged ∷ [])
+      switches
+      (warmed (pos 200) (pos 200) (pos 600) ∷ warmed (pos 200) (pos 200) (pos 200)
+      ∷ warmed (pos 600) (pos 200) unplugged ∷ warmed (pos 200) (pos 200) unplugged ∷ [])
       ≡ false ∷ true ∷ false ∷ true ∷ []
 
 pub story : Story
 unfolding opened recorded
-story = record { mechanic = refl; events = refl; cool-pulled = refl; none-connected = refl; plugged-in = refl; handed-over = refl; latched-again = refl }
+story =
+    record {
+      mechanic = refl;
+      events = refl;
+      cool-pulled = refl;
+      none-connected = refl;
+      plugged-in = refl;
+      handed-over = refl;
+      latched-again = refl;
+    }

@@ -1,43 +1,89 @@
 -- The demands shut out wrong boards. Demand 1: a board that accepts everything, one that leaves a byte of the last reply behind the next,
--- one that answers 4 where 3 is due, one that holds a frame still which it refused, one that answers 0 to a start of three cells. Demand 2: a board that NACKs everything, one that always replies idle, one that answers its first
--- frame and repeats it, statistics with invented counts. Demand 3: a handover that does nothing, and one that shows the last rider's switches once more. Some of the first look the same
+-- one that answers 4 where 3 is due, one that holds a frame still which it refused, one that is done with a start of three cells. Demand 2:
+-- a board that NACKs everything, one that always replies idle, one that answers its first frame and repeats it, statistics with invented
+-- counts. Demand 3: a handover that does nothing, and one that shows the last rider's switches once more. Some of the first look the same
 -- for two riders: the ones that NACK everything or reply idle meet demand 3, so demand 3 is stated of boards that meet demand 2. And that a
 -- write and the distance read back shuts out a board that accepts a write and does not keep it, and a distance that outlives its rider.
 -- Assumes nothing.
 use mathlib.Core.Path.{_≡_, refl, sym, ap}
-use mathlib.Core.Bool.{Bool, true, false, cond, false≢true}
+use mathlib.Core.Bool.{Bool, true, false, _&&_, not, cond, false≢true}
 use mathlib.Core.Logic.{inr}
 use mathlib.Core.List.{List, [], _∷_}
 use Prim.Native.Nat.{ℕ}
 use native.Mathlib.Omega.{arith}
 use lib.IntN.{pos}
-use lib.Dec.{eqb}
-use lib.ListN.{getD, set, replicate}
+use borrow.Author.Tests.{ltb-false}
+use lib.Dec.{eqb, ltb}
+use lib.ListN.{length, getD, set, replicate}
+use Rattle.laws.specs.History.{any}
+use Rattle.refusals.specs.declared.Refusal.the-variants.{WrongField, NoFrameHeld, WrongArea}
+use Rattle.refusals.specs.declared.Outcome.{Outcome}
+use Rattle.refusals.specs.declared.Outcome.the-variants.{Done, Refused}
+use Rattle.refusals.specs.Refusals.{numberOf, isDone}
+use Rattle.readings.specs.Readings.{noReadings}
 use Rattle.statistics.specs.declared.Statistics.{Statistics}
 use Rattle.board.specs.declared.Board.{Board}
 use Rattle.board.specs.State.{withStatistics}
 use Rattle.board.specs.Start.{startBoard}
-use Rattle.board.specs.Handover.{handoverOf}
-use Rattle.wire.specs.Wire.{padded, sealed, nackOf}
-use Rattle.board.specs.Calls.{Call, Seen, seen, tick, frame, handover, offer, fetch, save, load, step}
+use Rattle.replies.specs.Replies.{padded, sealed, nackOf}
+use Rattle.board.specs.Calls.{Call, tick, frame, handover, offer, Lent, nothingLent, replyLent, areaLent, shape, Seen, seen, step}
 use Rattle.board.specs.Behaviour.{Behaviour, board}
-use Rattle.board.specs.Account.{distanceAt}
-use Rattle.board.specs.Demands.{Demand1, Demand2, Demand3}
+use Rattle.board.specs.Account.{hands, distanceAt}
+use Rattle.board.specs.Demands.{deeds, Demand1, Demand2, SameKept, Demand3}
 use Rattle.board.proofs.Opened.{accounted}
-use Rattle.facts.proofs.Calls.{flow, still, status, events, latchings, to-800, says, answerAt, numberAt, byteAt}
-use Rattle.facts.proofs.Invariants.{Typed}
+use Rattle.facts.proofs.Calls.{flow, still, status, events, latchings, write-800, to-800, says, answerAt, outcomeAt, byteAt}
+use Rattle.facts.proofs.Invariants.{Typed, Bytes}
 use Rattle.facts.proofs.ReadsBack.{ReadsBack}
+
+-- ---- ours, but at these calls: what a call is lent says which is a frame or a fetch, its deeds which is a handover
+
+abbrev lentTo : Call → Lent
+lentTo c = shape c .lent (startBoard 4 2000)
+
+-- a buffer full of that byte
+abbrev leftIn : ℕ → Lent → List ℕ
+leftIn byte nothingLent = []
+leftIn byte (replyLent s room reply) = replicate room byte
+leftIn byte (areaLent area) = replicate (length area) byte
+
+abbrev repliesIn : Lent → Bool
+repliesIn nothingLent = false
+repliesIn (replyLent s room reply) = true
+repliesIn (areaLent area) = false
+
+abbrev isFrame : Call → Bool
+isFrame c = repliesIn (lentTo c) && not (shape c .onLine)
+
+abbrev isHandover : Call → Bool
+isHandover c = any hands (shape c .deeds (startBoard 4 2000))
+
+-- the same answer with that outcome and buffer
+abbrev shows : Seen → Outcome → List ℕ → Seen
+shows a outcome buffer =
+    record {
+      outcome = outcome;
+      buffer = buffer;
+      carried = a .carried;
+      charge = a .charge;
+      discharge = a .discharge;
+      decision = a .decision;
+      balancing = a .balancing;
+    }
+
+-- that outcome and reply to every frame, and nothing of the line or the memory
+abbrev answersFrames : Outcome → (List ℕ → List ℕ) → Call → Seen
+answersFrames outcome reply c = go (lentTo c)
+  where
+    go : Lent → Seen
+    go nothingLent = says Done []
+    go (replyLent s room ours) =
+        cond (shape c .onLine) (says (Refused NoFrameHeld) (replicate room 0)) (says outcome (padded room (reply s)))
+    go (areaLent area) = says (Refused WrongArea) []
 
 -- ---- everything is accepted, and the buffer left as it was lent
 
 abbrev accepts : Call → Seen
-accepts (tick cells r) = says 0 []
-accepts (frame s room) = says 0 (replicate room 0x5A)
-accepts handover = says 0 []
-accepts (offer bytes) = says 0 []
-accepts (fetch room) = says 0 (replicate room 0x5A)
-accepts (save n) = says 0 (replicate n 0x5A)
-accepts (load area) = says 0 []
+accepts c = says Done (leftIn 0x5A (lentTo c))
 
 abbrev pub accepting : Behaviour
 accepting = record { State = Unit {0}; start = λ cells perKm. tt; started = board .started; step = λ s c. (s, accepts c) }
@@ -45,7 +91,7 @@ accepting = record { State = Unit {0}; start = λ cells perKm. tt; started = boa
 -- a tick with no cells is number 11, and after an accepted frame zeros are due
 pub accepting-fails : ¬ Demand1 accepting
 unfolding accounted
-accepting-fails h = let z : _≡_ {A = ℕ} 0 11 = h .numbers 4 2000 [] (tick [] (record { current = pos 0; internal = pos 200; external1 = pos 200; external2 = pos 200; pulses = 0; charger = false; ignition = false })) in omega arith
+accepting-fails h = let z : _≡_ {A = ℕ} 0 11 = ap numberOf (h .outcomes 4 2000 [] (tick [] noReadings)) in omega arith
 
 pub lent-is-left : ¬ Demand1 accepting
 unfolding accounted
@@ -58,15 +104,10 @@ abbrev over : List ℕ → List ℕ → List ℕ
 over last buffer = cond (eqb (getD buffer 7 0) 0) (set buffer 7 (getD last 7 0)) buffer
 
 abbrev lefts : Board × List ℕ → Call → (Board × List ℕ) × Seen
-lefts (b, last) (tick cells r) = ((step b (tick cells r) .0, last), step b (tick cells r) .1)
-lefts (b, last) (frame s room) =
-    let a = step b (frame s room) .1 in
-    ((step b (frame s room) .0, over last (a .buffer)), record { number = a .number; buffer = over last (a .buffer); taken = a .taken; charge = a .charge; discharge = a .discharge; decision = a .decision; balancing = a .balancing })
-lefts (b, last) handover = ((step b handover .0, last), step b handover .1)
-lefts (b, last) (offer bytes) = ((step b (offer bytes) .0, last), step b (offer bytes) .1)
-lefts (b, last) (fetch room) = ((step b (fetch room) .0, last), step b (fetch room) .1)
-lefts (b, last) (save n) = ((step b (save n) .0, last), step b (save n) .1)
-lefts (b, last) (load area) = ((step b (load area) .0, last), step b (load area) .1)
+lefts (b, last) c =
+    let a = step b c .1 in
+    let buffer = cond (isFrame c) (over last (a .buffer)) (a .buffer) in
+    ((step b c .0, cond (isFrame c) buffer last), shows a (a .outcome) buffer)
 
 abbrev pub leaving : Behaviour
 leaving = record { State = Board × List ℕ; start = λ cells perKm. (startBoard cells perKm, []); started = board .started; step = lefts }
@@ -74,18 +115,13 @@ leaving = record { State = Board × List ℕ; start = λ cells perKm. (startBoar
 -- the reply to 0x12 has a CRC byte there, and the one to 0x18 after it ends before
 pub leaving-fails : ¬ Demand1 leaving
 unfolding accounted
-leaving-fails h = let z : _≡_ {A = ℕ} 0xE3 0 = ap (λ (l : List ℕ). getD l 1 0) (h .leaves 4 2000 (events ∷ []) status .2 refl) in omega arith
+leaving-fails h =
+    let z : _≡_ {A = ℕ} 0xE3 0 = ap (λ (l : List ℕ). getD l 1 0) (h .leaves 4 2000 (events ∷ []) status .2 refl) in omega arith
 
 -- ---- a fetch that answers with a NACK, and holds the frame still
 
 abbrev holdsOn : Board → Call → Board × Seen
-holdsOn b (tick cells r) = step b (tick cells r)
-holdsOn b (frame s room) = step b (frame s room)
-holdsOn b handover = step b handover
-holdsOn b (offer bytes) = step b (offer bytes)
-holdsOn b (fetch room) = (cond (eqb (step b (fetch room) .1 .number) 0) (step b (fetch room) .0) b, step b (fetch room) .1)
-holdsOn b (save n) = step b (save n)
-holdsOn b (load area) = step b (load area)
+holdsOn b c = (cond (shape c .fetches) (cond (isDone (step b c .1 .outcome)) (step b c .0) b) (step b c .0), step b c .1)
 
 abbrev pub holdingOn : Behaviour
 holdingOn = record { State = Board; start = startBoard; started = board .started; step = holdsOn }
@@ -93,47 +129,44 @@ holdingOn = record { State = Board; start = startBoard; started = board .started
 -- fetched again it answers 3 again, where 7 is due
 pub holding-on-fails : ¬ Demand1 holdingOn
 unfolding accounted
-holding-on-fails h = let z : _≡_ {A = ℕ} 3 7 = h .lets-go 4 2000 (offer (0xAA ∷ 0x18 ∷ 0x7F ∷ 0x1B ∷ []) ∷ []) 259 refl .0 in omega arith
+holding-on-fails h =
+    let z : _≡_ {A = ℕ} 3 7 = ap numberOf (h .lets-go 4 2000 (offer (0xAA ∷ 0x18 ∷ 0x7F ∷ 0x1B ∷ []) ∷ []) 259 refl .0) in omega arith
 
 -- ---- 4 where 3 is due
 
 abbrev blurs : Board → Call → Board × Seen
 blurs b c =
     let a = step b c .1 in
-    (step b c .0, record { number = cond (eqb (a .number) 3) 4 (a .number); buffer = a .buffer; taken = a .taken; charge = a .charge; discharge = a .discharge; decision = a .decision; balancing = a .balancing })
+    (step b c .0, shows a (cond (eqb (numberOf (a .outcome)) 3) (Refused WrongField) (a .outcome)) (a .buffer))
 
 abbrev pub blurring : Behaviour
 blurring = record { State = Board; start = startBoard; started = board .started; step = blurs }
 
 pub blurring-fails : ¬ Demand1 blurring
 unfolding accounted
-blurring-fails h = let z : _≡_ {A = ℕ} 4 3 = h .numbers 4 2000 [] (frame (0xAA ∷ 0x18 ∷ 0x7F ∷ 0x1B ∷ []) 259) in omega arith
+blurring-fails h =
+    let z : _≡_ {A = ℕ} 4 3 = ap numberOf (h .outcomes 4 2000 [] (frame (0xAA ∷ 0x18 ∷ 0x7F ∷ 0x1B ∷ []) 259)) in omega arith
 
--- ---- 0 to a start of three cells
+-- ---- done with a start of three cells
 
 abbrev pub eager : Behaviour
-eager = record { State = Board; start = startBoard; started = λ cells perKm. 0; step = step }
+eager = record { State = Board; start = startBoard; started = λ cells perKm. Done; step = step }
 
 pub eager-fails : ¬ Demand1 eager
-eager-fails h = let z : _≡_ {A = ℕ} 0 21 = h .starts 3 2000 in omega arith
+eager-fails h = let z : _≡_ {A = ℕ} 0 21 = ap numberOf (h .starts 3 2000) in omega arith
 
 -- ---- every frame gets a NACK
 
 abbrev nacks : Call → Seen
-nacks (tick cells r) = says 0 []
-nacks (frame s room) = says 4 (padded room (sealed (nackOf (getD s 1 0) 0x00)))
-nacks handover = says 0 []
-nacks (offer bytes) = says 0 []
-nacks (fetch room) = says 7 (replicate room 0)
-nacks (save n) = says 31 []
-nacks (load area) = says 31 []
+nacks c = answersFrames (Refused WrongField) (λ s. sealed (nackOf (getD s 1 0) 0x00)) c
 
 abbrev pub nacking : Behaviour
-nacking = record { State = Unit {0}; start = λ cells perKm. tt; started = λ cells perKm. 0; step = λ s c. (s, nacks c) }
+nacking = record { State = Unit {0}; start = λ cells perKm. tt; started = λ cells perKm. Done; step = λ s c. (s, nacks c) }
 
 pub nacking-fails : ¬ Demand2 nacking
 unfolding accounted
-nacking-fails h = let z : _≡_ {A = ℕ} 4 0 = ap (numberAt 0) (h 4 2000 (status ∷ [])) in omega arith
+nacking-fails h =
+    let z : _≡_ {A = ℕ} 4 0 = ap (λ (answers : List Seen). numberOf (outcomeAt 0 answers)) (h 4 2000 (status ∷ [])) in omega arith
 
 -- but it shows nothing of an earlier rider
 pub nacking-forgets : Demand3 nacking
@@ -142,16 +175,10 @@ nacking-forgets cells perKm xs ys zs k = refl
 -- ---- every frame gets the idle reply
 
 abbrev idles : Call → Seen
-idles (tick cells r) = says 0 []
-idles (frame s room) = says 0 (padded room (0xAA ∷ 0x18 ∷ 0x97 ∷ 0x00 ∷ 0xCF ∷ 0xCB ∷ []))
-idles handover = says 0 []
-idles (offer bytes) = says 0 []
-idles (fetch room) = says 7 (replicate room 0)
-idles (save n) = says 31 []
-idles (load area) = says 31 []
+idles c = answersFrames Done (λ s. 0xAA ∷ 0x18 ∷ 0x97 ∷ 0x00 ∷ 0xCF ∷ 0xCB ∷ []) c
 
 abbrev pub idling : Behaviour
-idling = record { State = Unit {0}; start = λ cells perKm. tt; started = λ cells perKm. 0; step = λ s c. (s, idles c) }
+idling = record { State = Unit {0}; start = λ cells perKm. tt; started = λ cells perKm. Done; step = λ s c. (s, idles c) }
 
 pub idling-fails : ¬ Demand2 idling
 unfolding accounted
@@ -163,17 +190,12 @@ idling-forgets cells perKm xs ys zs k = refl
 -- ---- the first frame is answered, and its answer repeated
 
 abbrev repeats : Board × List Seen → Call → (Board × List Seen) × Seen
-repeats (b, first) (tick cells r) = ((step b (tick cells r) .0, first), step b (tick cells r) .1)
-repeats (b, []) (frame s room) = ((step b (frame s room) .0, step b (frame s room) .1 ∷ []), step b (frame s room) .1)
-repeats (b, a ∷ rest) (frame s room) = ((b, a ∷ rest), a)
-repeats (b, first) handover = ((step b handover .0, first), step b handover .1)
-repeats (b, first) (offer bytes) = ((step b (offer bytes) .0, first), step b (offer bytes) .1)
-repeats (b, first) (fetch room) = ((step b (fetch room) .0, first), step b (fetch room) .1)
-repeats (b, first) (save n) = ((step b (save n) .0, first), step b (save n) .1)
-repeats (b, first) (load area) = ((step b (load area) .0, first), step b (load area) .1)
+repeats (b, []) c = ((step b c .0, cond (isFrame c) (step b c .1 ∷ []) []), step b c .1)
+repeats (b, a ∷ rest) c = ((cond (isFrame c) b (step b c .0), a ∷ rest), cond (isFrame c) a (step b c .1))
 
 abbrev pub repeating : Behaviour
-repeating = record { State = Board × List Seen; start = λ cells perKm. (startBoard cells perKm, []); started = board .started; step = repeats }
+repeating =
+    record { State = Board × List Seen; start = λ cells perKm. (startBoard cells perKm, []); started = board .started; step = repeats }
 
 pub repeating-fails : ¬ Demand2 repeating
 unfolding accounted
@@ -185,7 +207,15 @@ abbrev invented : Statistics → Statistics
 invented s =
     record {
       temperatures = s .temperatures;
-      counts = record { uv = 1; ov = s .counts .ov; doc = s .counts .doc; charge = s .counts .charge; ot = s .counts .ot; charging = s .counts .charging };
+      counts =
+          record {
+            uv = 1;
+            ov = s .counts .ov;
+            doc = s .counts .doc;
+            charge = s .counts .charge;
+            ot = s .counts .ot;
+            charging = s .counts .charging;
+          };
       pulses = s .pulses;
       drawn = s .drawn;
       fed = s .fed;
@@ -194,7 +224,13 @@ invented s =
     }
 
 abbrev pub inventing : Behaviour
-inventing = record { State = Board; start = λ cells perKm. withStatistics (startBoard cells perKm) (invented (startBoard cells perKm .hire .statistics)); started = board .started; step = step }
+inventing =
+    record {
+      State = Board;
+      start = λ cells perKm. let b = startBoard cells perKm in withStatistics b (invented (b .hire .statistics));
+      started = board .started;
+      step = step;
+    }
 
 pub inventing-fails : ¬ Demand2 inventing
 unfolding accounted
@@ -203,80 +239,81 @@ inventing-fails h = let z : _≡_ {A = ℕ} 1 0 = ap (byteAt 0 4) (h 4 2000 (lat
 -- ---- a handover does nothing
 
 abbrev keeps : Board → Call → Board × Seen
-keeps b (tick cells r) = step b (tick cells r)
-keeps b (frame s room) = step b (frame s room)
-keeps b handover = (b, seen (record { number = handoverOf b .number; board = b }) [])
-keeps b (offer bytes) = step b (offer bytes)
-keeps b (fetch room) = step b (fetch room)
-keeps b (save n) = step b (save n)
-keeps b (load area) = step b (load area)
+keeps b c = cond (isHandover c) (b, seen b (step b c .1 .outcome) [] 0) (step b c)
 
 abbrev pub keeping : Behaviour
 keeping = record { State = Board; start = startBoard; started = board .started; step = keeps }
 
--- of two riders one had a charger: the next rider's list of events says which
+-- of two riders one had a charger, and a handover keeps nothing of it
+same-kept : SameKept (deeds 4 2000 (flow (pos 0) 0 true ∷ [])) (deeds 4 2000 (still ∷ []))
+unfolding accounted
+same-kept = record { settings = refl; clock = refl; latched = refl; waits = refl; remembered = refl }
+
+-- the next rider's list of events says which
 pub keeping-fails : ¬ Demand3 keeping
 unfolding accounted
 keeping-fails h =
-    let e = h 4 2000 (flow (pos 0) 0 true ∷ []) (still ∷ []) (events ∷ []) (inr (record { settings = refl; clock = refl; latched = refl; waits = refl; remembered = refl })) in
+    let e = h 4 2000 (flow (pos 0) 0 true ∷ []) (still ∷ []) (events ∷ []) (inr same-kept) in
     let z : _≡_ {A = ℕ} 8 4 = ap (byteAt 1 2) e in
     omega arith
 
 -- ---- a handover that forgets, and shows the last rider's switches once more
 
 abbrev lingers : Board → Call → Board × Seen
-lingers b (tick cells r) = step b (tick cells r)
-lingers b (frame s room) = step b (frame s room)
-lingers b handover = (handoverOf b .board, seen (record { number = handoverOf b .number; board = b }) [])
-lingers b (offer bytes) = step b (offer bytes)
-lingers b (fetch room) = step b (fetch room)
-lingers b (save n) = step b (save n)
-lingers b (load area) = step b (load area)
+lingers b c = cond (isHandover c) (step b c .0, seen b (step b c .1 .outcome) [] 0) (step b c)
 
 abbrev pub lingering : Behaviour
 lingering = record { State = Board; start = startBoard; started = board .started; step = lingers }
 
--- of two riders one had a charger: the handover's own answer says which
+-- the handover's own answer says which of the two had a charger
 pub lingering-fails : ¬ Demand3 lingering
 unfolding accounted
 lingering-fails h =
-    let e = h 4 2000 (flow (pos 0) 0 true ∷ []) (still ∷ []) [] (inr (record { settings = refl; clock = refl; latched = refl; waits = refl; remembered = refl })) in
+    let e = h 4 2000 (flow (pos 0) 0 true ∷ []) (still ∷ []) [] (inr same-kept) in
     let z : true ≡ false = ap (λ (answers : List Seen). answerAt 0 answers .charge) e in
     absurd (false≢true (sym z))
 
 -- ---- a write is accepted, and not kept
 
 abbrev drops : Board → Call → Board × Seen
-drops b (tick cells r) = step b (tick cells r)
-drops b (frame s room) = (b, step b (frame s room) .1)
-drops b handover = step b handover
-drops b (offer bytes) = step b (offer bytes)
-drops b (fetch room) = step b (fetch room)
-drops b (save n) = step b (save n)
-drops b (load area) = step b (load area)
+drops b c = (cond (isFrame c) b (step b c .0), step b c .1)
 
 abbrev pub dropping : Behaviour
 dropping = record { State = Board; start = startBoard; started = board .started; step = drops }
 
+-- that its bytes are bytes is a test that computes
+bytes : (s : List ℕ) → any (ltb 255) s ≡ false → Bytes s
+bytes [] e = tt
+bytes (byte ∷ s) e = go (ltb 255 byte) refl e (bytes s)
+  where
+    go : (t : Bool) → ltb 255 byte ≡ t → cond t true (any (ltb 255) s) ≡ false → (any (ltb 255) s ≡ false → Bytes s) → Bytes (byte ∷ s)
+    go true l e others = absurd (false≢true (sym e))
+    go false l e others = (ltb-false 255 byte l, others e)
+
 typed : Typed (to-800 ∷ [])
-typed = ((omega arith, (omega arith, (omega arith, (omega arith, (omega arith, (omega arith, (omega arith, (omega arith, (omega arith, (omega arith, (omega arith, tt))))))))))), tt)
+typed = (bytes write-800 refl, tt)
 
 -- 316 was written to 800, and reads 2900 still: by 0x03, and in the current settings of 0x1D
 pub dropping-fails : ¬ ReadsBack dropping
 unfolding accounted
 dropping-fails h =
-    let z : _≡_ {A = ℕ} 0x0B 0x03 = ap (λ (l : List ℕ). getD l 3 0) (h .block 4 2000 (to-800 ∷ []) typed (0xAA ∷ 0x03 ∷ 0x01 ∷ 0x3C ∷ 0x00 ∷ 0x01 ∷ 0x5C ∷ 0x21 ∷ []) 259 0x03 316 1 refl (omega arith) (omega arith) refl) in
+    let s : List ℕ = 0xAA ∷ 0x03 ∷ 0x01 ∷ 0x3C ∷ 0x00 ∷ 0x01 ∷ 0x5C ∷ 0x21 ∷ [] in
+    let e = h .block 4 2000 (to-800 ∷ []) typed s 259 0x03 316 1 refl (omega arith) (omega arith) refl in
+    let z : _≡_ {A = ℕ} 0x0B 0x03 = ap (λ (l : List ℕ). getD l 3 0) e in
     omega arith
 
 pub factory-is-sent : ¬ ReadsBack dropping
 unfolding accounted
 factory-is-sent h =
-    let z : _≡_ {A = ℕ} 0x54 0x20 = ap (λ (l : List ℕ). getD l 35 0) (h .current 4 2000 (to-800 ∷ []) typed (0xAA ∷ 0x1D ∷ 0x04 ∷ 0x00 ∷ 0x64 ∷ 0x7A ∷ 0x5E ∷ []) 259 100 refl refl) in
+    let s : List ℕ = 0xAA ∷ 0x1D ∷ 0x04 ∷ 0x00 ∷ 0x64 ∷ 0x7A ∷ 0x5E ∷ [] in
+    let z : _≡_ {A = ℕ} 0x54 0x20 = ap (λ (l : List ℕ). getD l 35 0) (h .current 4 2000 (to-800 ∷ []) typed s 259 100 refl refl) in
     omega arith
 
 -- and the handover that does nothing: twenty pulses of the last rider read as 0.01 km
 pub distance-kept : ¬ ReadsBack keeping
 unfolding accounted distanceAt
 distance-kept h =
-    let z : _≡_ {A = ℕ} 1 0 = ap (λ (l : List ℕ). getD l 4 0) (h .distance 4 2000 (flow (pos 0) 20 false ∷ handover ∷ []) (omega arith) (0xAA ∷ 0x03 ∷ 0x00 ∷ 0x64 ∷ 0x00 ∷ 0x02 ∷ 0x9C ∷ 0x0F ∷ []) 259 refl refl) in
+    let s : List ℕ = 0xAA ∷ 0x03 ∷ 0x00 ∷ 0x64 ∷ 0x00 ∷ 0x02 ∷ 0x9C ∷ 0x0F ∷ [] in
+    let e = h .distance 4 2000 (flow (pos 0) 20 false ∷ handover ∷ []) (omega arith) s 259 refl refl in
+    let z : _≡_ {A = ℕ} 1 0 = ap (λ (l : List ℕ). getD l 4 0) e in
     omega arith

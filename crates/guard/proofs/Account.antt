@@ -1,6 +1,5 @@
--- The guard that the ticks so far tell of, with no timer and no memory, is the one that is stepped tick by tick; a sensor is remembered only
--- while OT is latched.
--- Assumes nothing.
+-- The guard that the ticks so far tell of, with no timer and no memory, is the one that is stepped tick by tick; a sensor is remembered
+-- only while OT is latched. Assumes nothing.
 use mathlib.Core.Path.{_≡_, refl, sym, ap, ap₂, _∙_}
 use mathlib.Core.Bool.{Bool, true, false, _&&_, _||_, not, cond, and-eq-true-iff}
 use mathlib.Core.List.{List, [], _∷_}
@@ -15,8 +14,10 @@ use Rattle.settings.specs.declared.Settings.{Settings}
 use Rattle.readings.specs.declared.Readings.{Readings}
 use Rattle.readings.specs.Readings.{connected}
 use Rattle.guard.specs.declared.Remembered.{Remembered}
-use Rattle.guard.specs.Guard.{cool, cellsHighEnough, cellsLowEnough, externalsMild, withConnected, rememberedCool, whileLatched, noneRemembered, waitsOf, recoversOf, latchOf, latchedOf, guardOf}
-use Rattle.guard.specs.Account.{Moment, holds, waitOf, connectedAtAny, coolAgain, sinceHot, latchedFrom, waitsFrom, rememberedFrom, guardFrom}
+use Rattle.guard.specs.Guard.{cool, cellsHighEnough, cellsLowEnough, externalsMild, withConnected, rememberedCool, whileLatched}
+use Rattle.guard.specs.Guard.{noneRemembered, waitsOf, recoversOf, latchOf, latchedOf, guardOf}
+use Rattle.guard.specs.Account.{Moment, holds, waitOf, connectedAtAny, coolAgain, sinceHot, latchedFrom, waitsFrom, rememberedFrom}
+use Rattle.guard.specs.Account.{guardFrom}
 
 -- ---- who remembers less recovers no later
 
@@ -25,7 +26,8 @@ module _ (s : Settings) (r : Readings) (less more : Remembered) where
   one false c x f e = refl
   one true c x f e = rw (f refl) at e
 
-  less-recovers : (less .external1 ≡ true → more .external1 ≡ true) → (less .external2 ≡ true → more .external2 ≡ true) → rememberedCool s r more ≡ true → rememberedCool s r less ≡ true
+  less-recovers : (less .external1 ≡ true → more .external1 ≡ true) → (less .external2 ≡ true → more .external2 ≡ true)
+      → rememberedCool s r more ≡ true → rememberedCool s r less ≡ true
   less-recovers f g e =
       let x = connected (r .external1) && cool s (r .external1) in
       let y = connected (r .external2) && cool s (r .external2) in
@@ -42,7 +44,10 @@ fewer m i n ms l =
 -- ---- OT, one tick later
 
 joined : (m : Moment) (ms : List Moment) → connectedAtAny (m ∷ ms) ≡ withConnected (connectedAtAny ms) (m .readings)
-joined m ms = λ i. record { external1 = or (connected (m .readings .external1)) (any (λ m. connected (m .readings .external1)) ms) i; external2 = or (connected (m .readings .external2)) (any (λ m. connected (m .readings .external2)) ms) i }
+joined m ms = λ i. record {
+  external1 = or (connected (m .readings .external1)) (any (λ m. connected (m .readings .external1)) ms) i;
+  external2 = or (connected (m .readings .external2)) (any (λ m. connected (m .readings .external2)) ms) i;
+}
   where
     or : (a b : Bool) → cond a true b ≡ (a || b)
     or true b = refl
@@ -58,7 +63,8 @@ module _ (m : Moment) (ms : List Moment) where
   pub hot-next : sinceHot (m ∷ ms) ≡ cond stays (m ∷ sinceHot ms) []
   hot-next =
       since-next (λ m. holds m .ot) coolAgain fewer m ms
-      ∙ ap (λ (seen : Remembered). cond (latchOf (some (sinceHot ms)) (holds m .ot) (rememberedCool (m .settings) (m .readings) seen)) (m ∷ sinceHot ms) []) (joined m (sinceHot ms))
+      ∙ ap (λ (seen : Remembered). cond (latchOf (some (sinceHot ms)) (holds m .ot) (rememberedCool (m .settings) (m .readings) seen)) (m
+      ∷ sinceHot ms) []) (joined m (sinceHot ms))
 
   ot-next : some (sinceHot (m ∷ ms)) ≡ stays
   ot-next = ap some hot-next ∙ go stays

@@ -17,7 +17,8 @@ use Rattle.readings.specs.Readings.{connected}
 use Rattle.guard.specs.declared.Conditions.{Conditions}
 use Rattle.guard.specs.declared.Waits.{Waits}
 use Rattle.guard.specs.declared.Remembered.{Remembered}
-use Rattle.guard.specs.Guard.{cellTooLow, cellsHighEnough, cellTooHigh, cellsLowEnough, hot, cool, cold, mild, someExternal, allExternals, sensorHot, rememberedCool, externalCold, externalsMild, holdsOf, recoversOf}
+use Rattle.guard.specs.Guard.{cellTooLow, cellsHighEnough, cellTooHigh, cellsLowEnough, hot, cool, cold, mild, someExternal}
+use Rattle.guard.specs.Guard.{allExternals, sensorHot, rememberedCool, externalCold, externalsMild, holdsOf, recoversOf}
 use Rattle.guard.specs.Quiet.{quiet, sensorsCool}
 
 -- ---- what recovers a condition excludes that it holds
@@ -47,7 +48,8 @@ down z n = rw (-ℤ-+ℤ-cancel z (pos n)) at (up (z -ℤ pos n) n)
 -- a < b, with a at least a′ and b at most b′, excludes b′ ≤ a′
 excluded : (a b a′ b′ : ℤ) → a′ ≤ℤ a → b ≤ℤ b′ → ltZ a b ≡ true → leZ b′ a′ ≡ false
 excluded a b a′ b′ p q h =
-    not-both (leZ b′ a′) (λ l. clashℤ (<ℤ-≤ℤ-trans (<ℤ-≤ℤ-trans (ltZ-yes {a = a} {b = b} (subst T (sym h) tt)) q) (leZ-yes {a = b′} {b = a′} (subst T (sym l) tt))) p)
+    not-both (leZ b′ a′) (λ l. clashℤ (<ℤ-≤ℤ-trans (<ℤ-≤ℤ-trans (ltZ-yes {a = a} {b = b} (subst T (sym h) tt)) q)
+    (leZ-yes {a = b′} {b = a′} (subst T (sym l) tt))) p)
 
 pub cool-not-hot : (s : Settings) (t : ℤ) → cool s t ≡ true → hot s t ≡ false
 cool-not-hot s t = excluded t (pos (10 * s .r319) -ℤ pos 50) t (pos (10 * s .r319)) (≤ℤ-refl t) (down (pos (10 * s .r319)) 50)
@@ -63,7 +65,8 @@ module _ (good bad : ℤ → Bool) (apart : (t : ℤ) → good t ≡ true → ba
 
   none : (r : Readings) → allExternals good r ≡ true → someExternal bad r ≡ false
   none r h =
-      let p = and-eq-true-iff (not (connected (r .external1)) || good (r .external1)) (not (connected (r .external2)) || good (r .external2)) .0 h in
+      let p = and-eq-true-iff (not (connected (r .external1)) || good (r .external1)) (not (connected (r .external2))
+      || good (r .external2)) .0 h in
       rw (one (connected (r .external1)) (r .external1) (p .0)) (one (connected (r .external2)) (r .external2) (p .1))
 
 pub all-cool-none-hot : (s : Settings) (r : Readings) → sensorsCool s r ≡ true → sensorHot s r ≡ false
@@ -77,10 +80,12 @@ all-mild-none-cold s r h =
     none (mild s) (cold s) (mild-not-cold s) r (p .1)
 
 -- where both externals are connected and all are cool, each that may be remembered is connected and cool
-pub all-cool-again : (s : Settings) (r : Readings) (m : Remembered) → connected (r .external1) ≡ true → connected (r .external2) ≡ true → sensorsCool s r ≡ true → rememberedCool s r m ≡ true
+pub all-cool-again : (s : Settings) (r : Readings) (m : Remembered) → connected (r .external1) ≡ true → connected (r .external2) ≡ true
+    → sensorsCool s r ≡ true → rememberedCool s r m ≡ true
 all-cool-again s r m e f h =
     let p = and-eq-true-iff (cool s (r .internal)) (allExternals (cool s) r) .0 h in
-    let q = and-eq-true-iff (not (connected (r .external1)) || cool s (r .external1)) (not (connected (r .external2)) || cool s (r .external2)) .0 (p .1) in
+    let q = and-eq-true-iff (not (connected (r .external1)) || cool s (r .external1)) (not (connected (r .external2))
+    || cool s (r .external2)) .0 (p .1) in
     ap₂ _&&_ (p .0) (ap₂ _&&_ (one (m .external1) _ _ e (q .0)) (one (m .external2) _ _ f (q .1)))
   where
     one : (m c t : Bool) → c ≡ true → (not c || t) ≡ true → (not m || c && t) ≡ true
@@ -124,7 +129,8 @@ pub record Idle (c : Conditions) : Type 0 where
 
 asked : Settings → Readings → Extremes → List Bool
 asked s r e =
-    connected (r .external2) ∷ cellsHighEnough s e ∷ cellsLowEnough s e ∷ sensorsCool s r ∷ externalsMild s r ∷ not (holdsOf s r e .doc) ∷ not (holdsOf s r e .coc) ∷ not (holdsOf s r e .roc) ∷ []
+    connected (r .external2) ∷ cellsHighEnough s e ∷ cellsLowEnough s e ∷ sensorsCool s r ∷ externalsMild s r ∷ not (holdsOf s r e .doc)
+    ∷ not (holdsOf s r e .coc) ∷ not (holdsOf s r e .roc) ∷ []
 
 module _ (s : Settings) (r : Readings) (e : Extremes) (q : quiet s r e ≡ true) where
   parts : (connected (r .external1) ≡ true) × Each (asked s r e)

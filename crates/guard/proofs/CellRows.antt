@@ -2,8 +2,8 @@
 -- lowest and the highest, is true exactly if the paper's sentence holds, for any list of cells. For 10·r316 is below the 65,535, and
 -- 10·r315 - 500 above the 0, that the lowest and the highest start from.
 -- Assumes nothing.
-use mathlib.Core.Path.{_≡_, refl, sym, _∙_}
-use mathlib.Core.Bool.{Bool, true, false, and-false}
+use mathlib.Core.Path.{_≡_, refl}
+use mathlib.Core.Bool.{true}
 use mathlib.Core.Logic.{_↔_, Iff·trans}
 use mathlib.Core.List.{List}
 use Prim.Native.Nat.{ℕ, _*_, _-_, _<_, _≤_}
@@ -13,7 +13,8 @@ use lib.Dec.{leb, ltb}
 use Rattle.cells.specs.Cells.{extremesOf, SomeCell, EveryCell}
 use Rattle.cells.proofs.SomeEvery.{some-at-most, every-above, some-at-least, every-below}
 use Rattle.settings.specs.declared.Settings.{Settings}
-use Rattle.settings.specs.Settings.{inRange, noneBelow}
+use Rattle.settings.specs.Settings.{registerOf, inRange}
+use Rattle.settings.proofs.Drafts.{between}
 use Rattle.readings.specs.declared.Readings.{Readings}
 use Rattle.guard.specs.Guard.{cellsHighEnough, cellsLowEnough, holdsOf}
 
@@ -26,13 +27,8 @@ pub record CellRows (s : Settings) (r : Readings) (cells : List ℕ) : Type 0 wh
 
 -- what is needed of the ranges
 needed : (s : Settings) → inRange s ≡ true → (s .r316 ≤ 3500) × (1200 ≤ s .r315)
-unfolding inRange noneBelow
-needed s h =
-    (leb-true (s .r316) 3500 (part (leb (s .r316) 3500) (λ e. simp (e, and-false))), leb-true 1200 (s .r315) (part (leb 1200 (s .r315)) (λ e. simp (e, and-false))))
-  where
-    part : (t : Bool) → (t ≡ false → inRange s ≡ false) → t ≡ true
-    part true f = refl
-    part false f = sym (f refl) ∙ h
+unfolding registerOf
+needed s h = (between s h 316 (omega arith) (omega arith) refl .1, between s h 315 (omega arith) (omega arith) refl .0)
 
 at-most : (a b : ℕ) → (leb a b ≡ true) ↔ (a ≤ b)
 at-most a b = (leb-true a b, le-leb a b)

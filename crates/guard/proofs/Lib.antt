@@ -5,3 +5,4 @@ pub mod CellRows
 pub mod Account
 pub mod Calm
 pub mod QuietTicks
+mod Facts

@@ -11,7 +11,8 @@ use Rattle.laws.specs.History.{some, stands, waits, pour}
 use Rattle.laws.proofs.Lists.{timer, waited}
 use Rattle.cells.specs.Cells.{extremesOf}
 use Rattle.guard.specs.Guard.{cellsHighEnough, cellsLowEnough, externalsMild, withConnected, noWaits, noGuard, latchOf, recoversOf}
-use Rattle.guard.specs.Account.{Moment, holds, waitOf, connectedAtAny, sinceHot, leftOf, latchedFrom, waitsFrom, rememberedFrom, guardFrom}
+use Rattle.guard.specs.Account.{Moment, holds, waitOf, connectedAtAny, sinceHot, leftOf, latchedFrom, waitsFrom, rememberedFrom}
+use Rattle.guard.specs.Account.{guardFrom}
 use Rattle.guard.specs.Quiet.{quiet, allQuiet}
 use Rattle.guard.proofs.Account.{hot-next}
 use Rattle.guard.proofs.Calm.{Recovered, Idle, recovered, idle}
@@ -90,9 +91,12 @@ pub stilled : (ms : List Moment) → Bounded ms → allQuiet (take 300 ms) ≡ t
 unfolding latchedFrom waitsFrom rememberedFrom recoversOf
 stilled ms b q =
     let hot = hot-no-more 299 ms q in
-    let uv = recovers-at-once (λ m. holds m .uv) (λ m. cellsHighEnough (m .settings) (extremesOf (m .cells))) (λ m q. (nothing-holds m q .uv, all-recovers m q [] .uv)) 299 ms q in
-    let ov = recovers-at-once (λ m. holds m .ov) (λ m. cellsLowEnough (m .settings) (extremesOf (m .cells))) (λ m q. (nothing-holds m q .ov, all-recovers m q [] .ov)) 299 ms q in
-    let lt = recovers-at-once (λ m. holds m .lt) (λ m. externalsMild (m .settings) (m .readings)) (λ m q. (nothing-holds m q .lt, all-recovers m q [] .lt)) 299 ms q in
+    let uv = recovers-at-once (λ m. holds m .uv) (λ m. cellsHighEnough (m .settings) (extremesOf (m .cells))) (λ m q.
+    (nothing-holds m q .uv, all-recovers m q [] .uv)) 299 ms q in
+    let ov = recovers-at-once (λ m. holds m .ov) (λ m. cellsLowEnough (m .settings) (extremesOf (m .cells))) (λ m q.
+    (nothing-holds m q .ov, all-recovers m q [] .ov)) 299 ms q in
+    let lt = recovers-at-once (λ m. holds m .lt) (λ m. externalsMild (m .settings) (m .readings)) (λ m q.
+    (nothing-holds m q .lt, all-recovers m q [] .lt)) 299 ms q in
     let doc = waits-over (λ m. holds m .doc) (λ m q. nothing-holds m q .doc) ms b q in
     let coc = waits-over (λ m. holds m .coc) (λ m q. nothing-holds m q .coc) ms b q in
     let roc = waits-over (λ m. holds m .roc) (λ m q. nothing-holds m q .roc) ms b q in

@@ -10,7 +10,9 @@ use Rattle.guard.specs.Table.{is, namesCharge, namesDischarge, chargeOff
 -- some condition that is named is latched
 module _ (names : Condition → Bool) (l : Conditions) where
   some : Bool
-  some = names UV && l .uv || (names OV && l .ov || (names OT && l .ot || (names DOC && l .doc || (names COC && l .coc || (names ROC && l .roc || names LT && l .lt)))))
+  some = names UV && l .uv
+      || (names OV && l .ov
+      || (names OT && l .ot || (names DOC && l .doc || (names COC && l .coc || (names ROC && l .roc || names LT && l .lt)))))
 
   named : (c : Condition) → is l c ≡ true → names c ≡ true → some ≡ true
   unfolding is some

@@ -62,7 +62,8 @@ withConnected m r = record { external1 = connected (r .external1) || m .external
 -- OT recovers: each of those is connected and < 10·r319 - 50
 abbrev pub rememberedCool : Settings → Readings → Remembered → Bool
 rememberedCool s r m =
-    cool s (r .internal) && ((not (m .external1) || connected (r .external1) && cool s (r .external1)) && (not (m .external2) || connected (r .external2) && cool s (r .external2)))
+    cool s (r .internal) && ((not (m .external1) || connected (r .external1) && cool s (r .external1))
+    && (not (m .external2) || connected (r .external2) && cool s (r .external2)))
 
 -- the memory is emptied at recovery
 abbrev pub whileLatched : Bool → Remembered → Remembered

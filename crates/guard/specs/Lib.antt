@@ -2,4 +2,3 @@ pub mod Guard
 pub mod Table
 pub mod Account
 pub mod Quiet
-mod Facts

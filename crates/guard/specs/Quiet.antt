@@ -17,7 +17,8 @@ sensorsCool s r = cool s (r .internal) && allExternals (cool s) r
 
 unfoldable pub quiet : Settings → Readings → Extremes → Bool
 quiet s r e =
-    connected (r .external1) && connected (r .external2) && cellsHighEnough s e && cellsLowEnough s e && sensorsCool s r && externalsMild s r && not (holdsOf s r e .doc) && not (holdsOf s r e .coc) && not (holdsOf s r e .roc)
+    connected (r .external1) && connected (r .external2) && cellsHighEnough s e && cellsLowEnough s e && sensorsCool s r
+    && externalsMild s r && not (holdsOf s r e .doc) && not (holdsOf s r e .coc) && not (holdsOf s r e .roc)
 
 -- each of these ticks is quiet
 abbrev pub allQuiet : List Moment → Bool

@@ -7,14 +7,15 @@ ghost use Rattle.hire.specs.Hire.{newHire, withEvents, withStatistics, w
 use cells::Extremes;
 use events::Events;
 use live::Live;
+use readings::Readings;
 use receiver::Receiver;
 use statistics::Statistics;
+pub use tick::EVENTS;
+pub use tick::events_of;
 
-// What the last tick read.
+// What the last tick read, as it was read.
 pub struct Sensed {
-    pub internal: i16, // 0.1 °C, as both externals
-    pub external1: i16,
-    pub external2: i16,
+    pub readings: Readings,
     pub cells: [u16; 16], // 0.1 mV
     pub extremes: Extremes,
     pub live: Live,
@@ -23,7 +24,6 @@ pub struct Sensed {
 pub struct Hire {
     pub sensed: Sensed,
     pub window: [u16; 10], // the pulses of the last ten ticks, the latest last
-    pub charger: bool, // present at the last tick
     pub events: Events,
     pub statistics: Statistics,
     pub status: u16,
@@ -40,9 +40,7 @@ impl Hire {
         ensures { λ r. ⌜ r ≡ newHire lifetime ⌝ }
     {
         let sensed = Sensed {
-            internal: 0,
-            external1: 0,
-            external2: 0,
+            readings: Readings::none(),
             cells: [0; 16],
             extremes: Extremes {
                 lowest: 0,
@@ -53,7 +51,6 @@ impl Hire {
         Hire {
             sensed,
             window: [0; 10],
-            charger: false,
             events: Events::none(),
             statistics: Statistics::cleared_at(lifetime),
             status: 0x97,

@@ -3,7 +3,7 @@ ghost use mathlib.Core.Path.{_≡_};
 ghost use Prim.Native.Nat.{_≤_};
 ghost use lib.ListN.{getD};
 ghost use Rattle.live.specs.Live.{speedOf, speedBitsOf};
-ghost use Rattle.hire.specs.Registers.{temperatureAt, liveRegister};
+ghost use Rattle.hire.specs.Registers.{temperatureAt, readingRegister};
 use crate::Hire;
 use crate::Sensed;
 use live::Speed;
@@ -11,26 +11,26 @@ use live::Speed;
 impl Hire {
     // Registers 0 to 55, on a board with that lifetime and those pulses per km; 0 past them.
     pub fn register(self, lifetime: u32, per_km: u16, at: u16) -> u16
-        ensures { λ r. ⌜ r ≡ liveRegister self lifetime «per_km» at ⌝ }
+        ensures { λ r. ⌜ r ≡ readingRegister self lifetime «per_km» at ⌝ }
     {
         match at {
             0..=15 => self.sensed.cell(at),
-            32 => pairs::low(lifetime),
-            33 => pairs::high(lifetime),
-            36 => pairs::low(self.sensed.live.volts_bits()),
-            37 => pairs::high(self.sensed.live.volts_bits()),
-            38 => pairs::low(self.sensed.live.amps_bits()),
-            39 => pairs::high(self.sensed.live.amps_bits()),
+            32 => numbers::low(lifetime),
+            33 => numbers::high(lifetime),
+            36 => numbers::low(self.sensed.live.volts_bits()),
+            37 => numbers::high(self.sensed.live.volts_bits()),
+            38 => numbers::low(self.sensed.live.amps_bits()),
+            39 => numbers::high(self.sensed.live.amps_bits()),
             40 => cells::millivolts(self.sensed.extremes.lowest),
             41 => cells::millivolts(self.sensed.extremes.highest),
-            42 => signed::to_bits(self.sensed.external1),
-            43 => signed::to_bits(self.sensed.external2),
-            48 => signed::to_bits(self.sensed.internal),
+            42 => signed::to_bits(self.sensed.readings.external1),
+            43 => signed::to_bits(self.sensed.readings.external2),
+            48 => signed::to_bits(self.sensed.readings.internal),
             50 => self.status,
             51 => self.decision,
             52 => self.balancing,
-            54 => pairs::low(self.speed_bits(per_km)),
-            55 => pairs::high(self.speed_bits(per_km)),
+            54 => numbers::low(self.speed_bits(per_km)),
+            55 => numbers::high(self.speed_bits(per_km)),
             _ => 0,
         }
     }
@@ -50,9 +50,9 @@ impl Sensed {
         ensures { λ r. ⌜ r ≡ temperatureAt self i ⌝ }
     {
         match i {
-            0 => signed::to_bits(self.internal),
-            1 => signed::to_bits(self.external1),
-            _ => signed::to_bits(self.external2),
+            0 => signed::to_bits(self.readings.internal),
+            1 => signed::to_bits(self.readings.external1),
+            _ => signed::to_bits(self.readings.external2),
         }
     }
 

@@ -3,8 +3,8 @@ ghost use mathlib.Core.Path.{_≡_};
 ghost use mathlib.Core.Bool.{cond};
 ghost use lib.IntN.{pos, negsuc};
 ghost use lib.Signed.{ltZ};
-ghost use Rattle.hire.specs.Tick.{readingsOf, speedAndDistanceOf, chargerEvent, chargerOf, recordedOf, conditionRecorded, conditionsRecorded};
-ghost use Rattle.hire.specs.Tick.{conditionEventsOf, statusFor, statusOf, balancingOf, statisticsOf, switchesOf};
+ghost use Rattle.hire.specs.Tick.{readingsOf, speedAndDistanceOf, chargerEvent, eventsOf, recordedOf, recordOf};
+ghost use Rattle.hire.specs.Tick.{statusFor, statusOf, balancingOf, statisticsOf, switchesOf};
 use crate::Hire;
 use crate::Sensed;
 use cells::Extremes;
@@ -14,6 +14,9 @@ use guard::Conditions;
 use live::Live;
 use readings::Readings;
 
+// A tick records no more: the charger's event, and one of each condition.
+pub const EVENTS: usize = 8;
+
 impl Hire {
     pub fn keep_readings(self, cells: &[u16], readings: Readings, extremes: Extremes) -> Hire
         ensures { λ r. ⌜ r ≡ readingsOf self (now (cells .entry)) readings extremes ⌝ }
@@ -21,9 +24,7 @@ impl Hire {
         let kept = cells::kept(cells);
         let live = Live::measured(cells::sum(cells), readings.current);
         let sensed = Sensed {
-            internal: readings.internal,
-            external1: readings.external1,
-            external2: readings.external2,
+            readings,
             cells: kept,
             extremes,
             live,
@@ -45,32 +46,17 @@ impl Hire {
         hire
     }
 
-    // The number of the charger's event where it is present now, or not; 0 for none.
-    pub fn charger_event(self, present: bool) -> u8
-        ensures { λ r. ⌜ r ≡ chargerEvent (self .charger) present ⌝ }
+    // The events of a tick, in their order; 0 is none.
+    pub fn record(self, seconds: u32, numbers: [u8; EVENTS]) -> Hire
+        ensures { λ r. ⌜ r ≡ recordOf self seconds numbers ⌝ }
     {
-        if self.charger == present {
-            return 0;
+        let mut events = self.events;
+        let mut i = 0;
+        while i < EVENTS {
+            events = recorded(events, seconds, numbers[i]);
+            i += 1;
         }
-        if present { 0x64 } else { 0x65 }
-    }
-
-    pub fn see_charger(self, seconds: u32, present: bool) -> Hire
-        ensures { λ r. ⌜ r ≡ chargerOf self seconds present ⌝ }
-    {
-        let event = self.charger_event(present);
-        let events = recorded(self.events, seconds, event);
-        let mut hire = self;
-        hire.events = events;
-        hire.charger = present;
-        hire
-    }
-
-    // The events of the conditions in the table's order, where the latches were `before` and are `after`.
-    pub fn record_conditions(self, seconds: u32, before: Conditions, after: Conditions) -> Hire
-        ensures { λ r. ⌜ r ≡ conditionEventsOf self seconds before after ⌝ }
-    {
-        self.with_events(conditions_recorded(self.events, seconds, before, after))
+        self.with_events(events)
     }
 
     pub fn set_status(self, latched: Conditions, readings: Readings) -> Hire
@@ -127,39 +113,34 @@ impl Hire {
     }
 }
 
-// The latches before and after the tick; in the table's order.
-fn conditions_recorded(
-    events: Events,
-    seconds: u32,
-    before: Conditions,
-    after: Conditions,
-) -> Events
-    ensures { λ r. ⌜ r ≡ conditionsRecorded seconds before after events ⌝ }
+// The events of a tick in the order in which they are recorded, 0 for none: the charger's, which was present at the tick before or is
+// now, and the conditions' in the table's order, where the latches were `before` and are `after`.
+pub fn events_of(was: bool, is: bool, before: Conditions, after: Conditions) -> [u8; EVENTS]
+    ensures { λ r. ⌜ r ≡ eventsOf was is before after ⌝ }
 {
-    let uv = condition_recorded(events, seconds, before, after, Condition::UV);
-    let ov = condition_recorded(uv, seconds, before, after, Condition::OV);
-    let ot = condition_recorded(ov, seconds, before, after, Condition::OT);
-    let doc = condition_recorded(ot, seconds, before, after, Condition::DOC);
-    let coc = condition_recorded(doc, seconds, before, after, Condition::COC);
-    let roc = condition_recorded(coc, seconds, before, after, Condition::ROC);
-    condition_recorded(roc, seconds, before, after, Condition::LT)
+    let charger = charger_event(was, is);
+    let uv = before.event(after, Condition::UV);
+    let ov = before.event(after, Condition::OV);
+    let ot = before.event(after, Condition::OT);
+    let doc = before.event(after, Condition::DOC);
+    let coc = before.event(after, Condition::COC);
+    let roc = before.event(after, Condition::ROC);
+    let lt = before.event(after, Condition::LT);
+    [charger, uv, ov, ot, doc, coc, roc, lt]
 }
 
-fn condition_recorded(
-    events: Events,
-    seconds: u32,
-    before: Conditions,
-    after: Conditions,
-    condition: Condition,
-) -> Events
-    ensures { λ r. ⌜ r ≡ conditionRecorded seconds before after events condition ⌝ }
+fn charger_event(was: bool, is: bool) -> u8
+    ensures { λ r. ⌜ r ≡ chargerEvent was is ⌝ }
 {
-    recorded(events, seconds, before.event(after, condition))
+    if was == is {
+        return 0;
+    }
+    if is { 0x64 } else { 0x65 }
 }
 
 // The number 0 records none.
 fn recorded(events: Events, seconds: u32, number: u8) -> Events
-    ensures { λ r. ⌜ r ≡ recordedOf events seconds number ⌝ }
+    ensures { λ r. ⌜ r ≡ recordedOf seconds events number ⌝ }
 {
     if number == 0 {
         return events;

@@ -22,7 +22,8 @@ none-packed {f} {n} {xs} {i} e =
     let h : length (take n xs) ≤ i = rw length-take (omega arith) in
     record { within = omega arith; so-far = rw drop-of-length-le }
 
-pub one-down : {f : ℕ → Bool} {b b′ n : ℕ} {xs : List ℕ} {i : ℕ} → Packed f b n xs i → 0 < i → b′ ≡ b + b + bitOf (f (getD xs (i - 1) 0)) → Packed f b′ n xs (i - 1)
+pub one-down : {f : ℕ → Bool} {b b′ n : ℕ} {xs : List ℕ} {i : ℕ} → Packed f b n xs i → 0 < i → b′ ≡ b + b + bitOf (f (getD xs (i - 1) 0))
+    → Packed f b′ n xs (i - 1)
 unfolding packed
 one-down {f} {b} {b′} {n} {xs} {i} g h q =
     let e : suc (i - 1) ≡ i = omega arith in

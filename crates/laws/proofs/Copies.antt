@@ -20,7 +20,8 @@ pub record Copied (n : ℕ) (xs : List ℕ) (i : ℕ) (l : List ℕ) : Type 0 wh
 pub none-copied : {n : ℕ} {xs : List ℕ} → Copied n xs 0 (replicate n 0)
 none-copied {n} {xs} = record { within = omega arith; copied = ap (λ (k : ℕ). replicate k 0) (sym (sub-zero n)) }
 
-pub one-copied : {n : ℕ} {xs : List ℕ} {i : ℕ} {l : List ℕ} → Copied n xs i l → i < min n (length xs) → Copied n xs (i + 1) (set l i (getD xs i 0))
+pub one-copied : {n : ℕ} {xs : List ℕ} {i : ℕ} {l : List ℕ} → Copied n xs i l → i < min n (length xs)
+    → Copied n xs (i + 1) (set l i (getD xs i 0))
 one-copied {n} {xs} {i} {l} c h =
     let k : n - i ≡ suc (n - (i + 1)) = omega arith in
     let t : length (take i xs) ≡ i = length-take-le i xs (omega arith) in
@@ -30,10 +31,12 @@ one-copied {n} {xs} {i} {l} c h =
           ap (λ (l : List ℕ). set l i (getD xs i 0)) (c .copied ∙ ap (λ (m : ℕ). take i xs ++ replicate m 0) k)
           ∙ set-at (take i xs) 0 (replicate (n - (i + 1)) 0) (getD xs i 0) i t
           ∙ sym (append-snoc (take i xs) (getD xs i 0) (replicate (n - (i + 1)) 0))
-          ∙ ap (λ (a : List ℕ). a ++ replicate (n - (i + 1)) 0) (sym (ap (λ (m : ℕ). take m xs) (add-one i) ∙ take-suc xs i 0 (omega arith)));
+          ∙ ap (λ (a : List ℕ). a ++ replicate (n - (i + 1)) 0)
+          (sym (ap (λ (m : ℕ). take m xs) (add-one i) ∙ take-suc xs i 0 (omega arith)));
     }
 
-pub all-copied : {n : ℕ} {xs : List ℕ} {i : ℕ} {l : List ℕ} → Copied n xs i l → min n (length xs) ≤ i → l ≡ take n xs ++ replicate (n - length xs) 0
+pub all-copied : {n : ℕ} {xs : List ℕ} {i : ℕ} {l : List ℕ} → Copied n xs i l → min n (length xs) ≤ i
+    → l ≡ take n xs ++ replicate (n - length xs) 0
 all-copied {n} {xs} {i} {l} c h =
     let k : n - i ≡ n - length xs = omega (arith, c .within) in
     c .copied ∙ ap₂ (λ (a : List ℕ) (m : ℕ). a ++ replicate m 0) (same (leb n (length xs)) refl) k

@@ -16,7 +16,8 @@ wrong e = absurd (let z : _≡_ {A = ℕ} 0 1 = cc in omega arith)
 
 module _ {A : Type 0} where
   module _ (holds recovers : A → Bool) where
-    stands-later : (later : List A) (t : A) (earlier : List A) → holds t ≡ true → any recovers later ≡ false → stands holds recovers (later ++ (t ∷ earlier)) ≡ true
+    stands-later : (later : List A) (t : A) (earlier : List A) → holds t ≡ true → any recovers later ≡ false
+        → stands holds recovers (later ++ (t ∷ earlier)) ≡ true
     stands-later [] t earlier e f = rw e
     stands-later (x ∷ later) t earlier e f = go (holds x) (recovers x) f (stands-later later t earlier e)
       where
@@ -37,20 +38,30 @@ module _ {A : Type 0} where
         go false e true f s i = wrong s
         go false e false f s i =
             let r = i s in
-            record { later = t ∷ r .later; tick = r .tick; earlier = r .earlier; split = ap (λ (l : List A). t ∷ l) (r .split); held = r .held; unrecovered = rw f (r .unrecovered) }
+            record {
+              later = t ∷ r .later;
+              tick = r .tick;
+              earlier = r .earlier;
+              split = ap (λ (l : List A). t ∷ l) (r .split);
+              held = r .held;
+              unrecovered = rw f (r .unrecovered);
+            }
 
     pub latched : (ts : List A) → (stands holds recovers ts ≡ true) ↔ Stands holds recovers ts
     latched ts = (stands-since ts, λ s. rw (s .split) (stands-later (s .later) (s .tick) (s .earlier) (s .held) (s .unrecovered)))
 
   module _ (holds : A → Bool) (wait : A → ℕ) where
-    waits-later : (k : A → ℕ → Bool) (later : List A) (t : A) (earlier : List A) → holds t ≡ true → any holds later ≡ false → k t (length later) ≡ true
+    waits-later : (k : A → ℕ → Bool) (later : List A) (t : A) (earlier : List A) → holds t ≡ true → any holds later ≡ false
+        → k t (length later) ≡ true
         → any (λ x. k x (ago holds (later ++ (t ∷ earlier)))) (newest holds (later ++ (t ∷ earlier))) ≡ true
     waits-later k [] t earlier e f g = rw (e, g)
     waits-later k (x ∷ later) t earlier e f g = go (holds x) f (λ f. waits-later (λ y n. k y (suc n)) later t earlier e f g)
       where
         go : (a : Bool) → cond a true (any holds later) ≡ false
-            → (any holds later ≡ false → any (λ y. k y (suc (ago holds (later ++ (t ∷ earlier))))) (newest holds (later ++ (t ∷ earlier))) ≡ true)
-            → any (λ y. k y (cond a 0 (suc (ago holds (later ++ (t ∷ earlier)))))) (cond a (x ∷ []) (newest holds (later ++ (t ∷ earlier)))) ≡ true
+            → (any holds later ≡ false → any (λ y. k y (suc (ago holds (later ++ (t ∷ earlier))))) (newest holds (later ++ (t ∷ earlier)))
+            ≡ true)
+            → any (λ y. k y (cond a 0 (suc (ago holds (later ++ (t ∷ earlier)))))) (cond a (x ∷ []) (newest holds (later ++ (t ∷ earlier))))
+            ≡ true
         go true f i = wrong (sym f)
         go false f i = i f
 
@@ -76,11 +87,29 @@ module _ {A : Type 0} where
             one false e = e
         go false e s i =
             let r = i s in
-            record { later = t ∷ r .later; tick = r .tick; earlier = r .earlier; split = ap (λ (l : List A). t ∷ l) (r .split); held = r .held; without = rw e (r .without); few = r .few }
+            record {
+              later = t ∷ r .later;
+              tick = r .tick;
+              earlier = r .earlier;
+              split = ap (λ (l : List A). t ∷ l) (r .split);
+              held = r .held;
+              without = rw e (r .without);
+              few = r .few;
+            }
 
     pub waiting : (ts : List A) → (waits holds wait ts ≡ true) ↔ Waits holds wait ts
     waiting ts = (
       λ e. let r = found (λ x n. ltb n (wait x)) ts e in
-          record { later = r .later; tick = r .tick; earlier = r .earlier; split = r .split; held = r .held; without = r .without; few = ltb-true (length (r .later)) (wait (r .tick)) (r .few) },
-      λ s. rw (s .split) (waits-later (λ x n. ltb n (wait x)) (s .later) (s .tick) (s .earlier) (s .held) (s .without) (lt-ltb (length (s .later)) (wait (s .tick)) (s .few))),
+          record {
+            later = r .later;
+            tick = r .tick;
+            earlier = r .earlier;
+            split = r .split;
+            held = r .held;
+            without = r .without;
+            few = ltb-true (length (r .later)) (wait (r .tick)) (r .few);
+          },
+      λ s.
+          rw (s .split) (waits-later (λ x n. ltb n (wait x)) (s .later) (s .tick) (s .earlier) (s .held) (s .without)
+          (lt-ltb (length (s .later)) (wait (s .tick)) (s .few))),
     )

@@ -68,7 +68,8 @@ module _ {A : Type 0} (holds : A → Bool) (recovers : List A → Bool)
   front zero ts = (0, omega arith, refl)
   front (suc n) ts = go (unbroken holds recovers (take (suc n) ts)) (front n ts)
     where
-      go : (b : Bool) → (k : ℕ) × (k ≤ n) × (found n ts ≡ take k ts) → (k : ℕ) × (k ≤ suc n) × (cond b (take (suc n) ts) (found n ts) ≡ take k ts)
+      go : (b : Bool) → (k : ℕ) × (k ≤ n) × (found n ts ≡ take k ts)
+          → (k : ℕ) × (k ≤ suc n) × (cond b (take (suc n) ts) (found n ts) ≡ take k ts)
       go true i = (suc n, omega arith, refl)
       go false i = let l = i .1 in (i .0, omega arith, i .2)
 
@@ -82,7 +83,8 @@ module _ {A : Type 0} (holds : A → Bool) (recovers : List A → Bool)
   next : (t : A) (n : ℕ) (ts : List A) → n ≤ length ts → found (suc n) (t ∷ ts) ≡ cond (goes-on t (found n ts)) (t ∷ found n ts) []
   next t zero ts l = ap (λ (b : Bool). cond b (t ∷ []) []) (sym (or-false (holds t)))
   next t (suc n) [] l = absurd (not-suc-le-zero l)
-  next t (suc n) (u ∷ ts) l = go (unbroken holds recovers (u ∷ take n ts)) (holds t) refl (recovers (t ∷ u ∷ take n ts)) refl (next t n (u ∷ ts) (omega arith))
+  next t (suc n) (u ∷ ts) l =
+      go (unbroken holds recovers (u ∷ take n ts)) (holds t) refl (recovers (t ∷ u ∷ take n ts)) refl (next t n (u ∷ ts) (omega arith))
     where
       go : (b : Bool) (h : Bool) → holds t ≡ h → (r : Bool) → recovers (t ∷ u ∷ take n ts) ≡ r
           → found (suc n) (t ∷ u ∷ ts) ≡ cond (goes-on t (found n (u ∷ ts))) (t ∷ found n (u ∷ ts)) []
@@ -116,7 +118,23 @@ module _ {A : Type 0} (holds : A → Bool) (recovers : List A → Bool)
       go : (before : List A) → sinceLatched holds recovers ts ≡ before
           → (some (sinceLatched holds recovers ts) ≡ true → SinceLatched holds recovers ts) → SinceLatched holds recovers (t ∷ ts)
       go [] f i =
-          record { later = []; tick = t; earlier = ts; split = refl; held = sym (or-false (holds t)) ∙ sym (ap (goes-on t) f) ∙ stays; before = f; since = longer ∙ ap (λ (l : List A). t ∷ l) f }
+          record {
+            later = [];
+            tick = t;
+            earlier = ts;
+            split = refl;
+            held = sym (or-false (holds t)) ∙ sym (ap (goes-on t) f) ∙ stays;
+            before = f;
+            since = longer ∙ ap (λ (l : List A). t ∷ l) f;
+          }
       go (u ∷ us) f i =
           let r = i (ap some f) in
-          record { later = t ∷ r .later; tick = r .tick; earlier = r .earlier; split = ap (λ (l : List A). t ∷ l) (r .split); held = r .held; before = r .before; since = longer ∙ ap (λ (l : List A). t ∷ l) (r .since) }
+          record {
+            later = t ∷ r .later;
+            tick = r .tick;
+            earlier = r .earlier;
+            split = ap (λ (l : List A). t ∷ l) (r .split);
+            held = r .held;
+            before = r .before;
+            since = longer ∙ ap (λ (l : List A). t ∷ l) (r .since);
+          }

@@ -71,7 +71,8 @@ module _ {A : Type 0} where
 
   pub take-min : (n : ℕ) (xs : List A) → take (min n (length xs)) xs ≡ take n xs
   take-min n xs =
-      min-cases n (length xs) _ (λ h e. ap (λ k. take k xs) e) (λ h e. ap (λ k. take k xs) e ∙ take-all (length xs) xs (omega arith) ∙ sym (take-all n xs h))
+      min-cases n (length xs) _ (λ h e. ap (λ k. take k xs) e) (λ h e. ap (λ k. take k xs) e ∙ take-all (length xs) xs (omega arith)
+      ∙ sym (take-all n xs h))
 
 -- ---- one of more
 
@@ -82,7 +83,8 @@ module _ {A : Type 0} (p : A → Bool) where
   any-of-more (suc m) (suc n) [] h e = e
   any-of-more (suc m) (suc n) (x ∷ xs) h e = go (p x) e (any-of-more m n xs (omega arith))
     where
-      go : (b : Bool) → cond b true (any p (take m xs)) ≡ true → (any p (take m xs) ≡ true → any p (take n xs) ≡ true) → cond b true (any p (take n xs)) ≡ true
+      go : (b : Bool) → cond b true (any p (take m xs)) ≡ true → (any p (take m xs) ≡ true → any p (take n xs) ≡ true)
+          → cond b true (any p (take n xs)) ≡ true
       go true e i = refl
       go false e i = i e
 
@@ -95,11 +97,15 @@ module _ {C B : Type 0} (p q : C → Bool) (what : List C → List B) where
   sooner (c ∷ h) = go (p c) (q c) (sooner h)
     where
       go : (a b : Bool) → (older : List B) × (each what (since p h) ≡ each what (since (λ c. p c || q c) h) ++ older)
-          → (older : List B) × (each what (cond a [] ((c ∷ h) ∷ since p h)) ≡ each what (cond (a || b) [] ((c ∷ h) ∷ since (λ c. p c || q c) h)) ++ older)
+          → (older : List B)
+          × (each what (cond a [] ((c ∷ h) ∷ since p h)) ≡ each what (cond (a || b) [] ((c ∷ h) ∷ since (λ c. p c || q c) h)) ++ older)
       go true b i = ([], refl)
       go false true i = (what (c ∷ h) ++ each what (since p h), refl)
-      go false false i =
-          (i .0, ap (λ (l : List B). what (c ∷ h) ++ l) (i .1) ∙ sym (append-assoc (what (c ∷ h)) (each what (since (λ c. p c || q c) h)) (i .0)))
+      go false false i = (
+        i .0,
+        ap (λ (l : List B). what (c ∷ h) ++ l) (i .1)
+            ∙ sym (append-assoc (what (c ∷ h)) (each what (since (λ c. p c || q c) h)) (i .0)),
+      )
 
 -- ---- waits
 
@@ -131,7 +137,8 @@ module _ {A : Type 0} (holds : A → Bool) (wait : A → ℕ) where
       one-left false e = le-ltb 0 (wait t - k + 0) (omega (arith, ltb-false))
 
       go : (a : Bool) → ltb 0 (sum (λ t. wait t - k) (newest holds ts)) ≡ any (λ t. ltb k (wait t)) (newest holds ts)
-          → ltb 0 (sum (λ t. wait t - k) (cond a (t ∷ []) (newest holds ts))) ≡ any (λ t. ltb k (wait t)) (cond a (t ∷ []) (newest holds ts))
+          → ltb 0 (sum (λ t. wait t - k) (cond a (t ∷ []) (newest holds ts)))
+          ≡ any (λ t. ltb k (wait t)) (cond a (t ∷ []) (newest holds ts))
       go true e = one-left (ltb k (wait t)) refl
       go false e = e
 

@@ -99,7 +99,8 @@ module _ {A : Type 0} where
   longest p zero ts = []
   longest p (suc n) ts = cond (p (take (suc n) ts)) (take (suc n) ts) (longest p n ts)
 
-  -- the ticks since it latched, that tick included; none if it is not latched. (A shorter stretch is one from a tick at which it held again)
+  -- the ticks since it latched, that tick included; none if it is not latched. (A shorter stretch is one from a tick at which it held
+  -- again)
   abbrev pub sinceLatched : (A → Bool) → (List A → Bool) → List A → List A
   sinceLatched holds recovers ts = longest (unbroken holds recovers) (length ts) ts
 

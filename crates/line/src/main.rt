@@ -1,6 +1,12 @@
 // A board at one end of a raw serial line, after the recording that is named; bytes on standard input, replies on standard output.
 ghost use Rattle.io.specs.Counts.{Counts};
 use board::Board;
+use player::BLOCK;
+use player::Played;
+use player::next_block;
+use player::on_from;
+use player::put_progress;
+use recording::Ran;
 
 const INPUT: i32 = 0;
 
@@ -27,12 +33,38 @@ fn play_and_listen() {
             b"line: 0 ticks, 62: the recording cannot be read\n",
         );
     } else {
-        let played = player::play(file, false);
-        if played.ran.number != 0 {
-            player::tell(b"line", played);
-        }
-        listen(played.ran.board);
+        listen(board_after(file));
     }
+}
+
+fn board_after(file: i32) -> Board {
+    let opened = player::opening(file);
+    let mut block = [0u8; BLOCK];
+    let ran = all_played(opened.ran, file, &mut block);
+    if !ran.is_done() {
+        player::tell(
+            b"line",
+            Played {
+                is_open: opened.is_open,
+                ran,
+            },
+        );
+    }
+    ran.board
+}
+
+// Until the recording ends or is refused; no run uses up so many turns.
+fn all_played(start: Ran, file: i32, block: &mut [u8]) -> Ran {
+    let mut ran = start;
+    let mut turns = u64::MAX;
+    let mut count = next_block(file, block);
+    while 0 < turns && 0 < count && ran.is_done() {
+        ran = on_from(ran, &block[0..count], usize::MAX);
+        put_progress(ran.accepted, turns);
+        count = next_block(file, block);
+        turns -= 1;
+    }
+    ran
 }
 
 // Until the line ends. A proved loop has to end, and nothing says that the input does: no run uses up so many turns.

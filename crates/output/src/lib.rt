@@ -1,9 +1,10 @@
 // Bytes that wait in a buffer until they are written to standard output, so that many lines go by one call of the operating system.
 ghost use mathlib.Core.Bool.{cond};
 ghost use mathlib.Core.Path.{_≡_};
-ghost use Prim.Native.Nat.{_+_, _≤_, min};
+ghost use Prim.Native.Nat.{_+_};
 ghost use lib.Dec.{leb};
 ghost use lib.ListN.{length};
+use numbers::lesser;
 use text::has_room;
 
 const OUTPUT: i32 = 1;
@@ -22,14 +23,7 @@ pub fn with_room(out: &[u8], waiting: usize, places: usize) -> usize
 pub fn written(out: &[u8], waiting: usize) -> usize
     ensures { λ r. ⌜ r ≡ 0 ⌝ }
 {
-    let count = least(waiting, out.len());
+    let count = lesser(waiting, out.len());
     io::write_all(OUTPUT, &out[0..count]);
     0
-}
-
-// The lesser of two.
-pub fn least(a: usize, b: usize) -> usize
-    ensures { λ r. ⌜ (r ≡ min a b) × (r ≤ a) × (r ≤ b) ⌝ }
-{
-    if a < b { a } else { b }
 }

@@ -1,11 +1,12 @@
 // The pack: all that a handover keeps. Start numbers, settings, the lifetime with its tenths, latched conditions, waits and
 // remembered sensors.
-ghost use mathlib.Core.Bool.{cond};
 ghost use mathlib.Core.Path.{_≡_};
-ghost use Rattle.pack.specs.Pack.{usable, newPack, laterOf, timeOf, conditionsOf, withSettings, startNumber, tickNumber};
+ghost use Rattle.pack.specs.Pack.{usable, newPack, laterOf, timeOf, conditionsOf, withSettings, startOutcome, tickOutcome};
 use cells::Extremes;
 use guard::Guard;
 use readings::Readings;
+use refusals::Outcome;
+use refusals::Refusal;
 use settings::Settings;
 
 // The lifetime, with its tenths.
@@ -45,23 +46,25 @@ impl Pack {
         (4 <= self.cells) & (self.cells <= 16)
     }
 
-    // 0 for a board that takes calls, 21 for one that is none.
-    pub fn number(self) -> u8
-        ensures { λ r. ⌜ r ≡ startNumber self ⌝ }
+    // Done for a board that takes calls; a board that is none refuses them all.
+    pub fn outcome(self) -> Outcome
+        ensures { λ r. ⌜ r ≡ startOutcome self ⌝ }
     {
-        if self.is_usable() { 0 } else { 21 }
+        if self.is_usable() {
+            Outcome::Done
+        } else {
+            Outcome::Refused(Refusal::NoBoard)
+        }
     }
 
-    // The number of a tick that brings those readings and so many cells.
-    pub fn tick_number(self, readings: Readings, given: usize) -> u8
-        ensures { λ r. ⌜ r ≡ tickNumber self readings given ⌝ }
+    // What a tick comes to that brings those readings and so many cells.
+    pub fn tick_outcome(self, readings: Readings, given: usize) -> Outcome
+        ensures { λ r. ⌜ r ≡ tickOutcome self readings given ⌝ }
     {
         if !self.is_usable() {
-            return 21;
+            return Outcome::Refused(Refusal::NoBoard);
         }
-        readings
-            .judged(self.cells as usize, self.per_km, given)
-            .number()
+        readings.judged(self.cells as usize, self.per_km, given)
     }
 
     pub fn pass_time(self) -> Pack

@@ -1,33 +1,41 @@
 -- The bytes of a reply buffer that are told to be the reply are the reply: each kind has the length that its second and third byte say.
 -- Assumes nothing.
 use mathlib.Core.Path.{_≡_, refl, sym, ap, _∙_}
-use mathlib.Core.Bool.{Bool, true, false, _&&_, cond}
+use mathlib.Core.Bool.{Bool, true, false, cond}
 use mathlib.Core.List.{List, [], _∷_, _++_, append-nil}
-use Prim.Native.Nat.{ℕ, zero, suc, _+_, _-_, _*_, _/_, _≤_, min}
+use Prim.Native.Nat.{ℕ, zero, suc, _+_, _-_, _*_, _≤_, min}
 use native.Mathlib.Omega.{arith}
 use borrow.Author.Tests.{le-ltb, eq-eqb, eqb-true}
-use lib.Dec.{eqb, leb, ltb}
+use lib.Dec.{eqb, ltb}
 use lib.ListN.{length, take, getD, replicate, length-append, length-replicate}
 use lib.Seq.{take-append-add}
 use Rattle.crc.specs.Crc.{crcOf}
+use Rattle.refusals.specs.declared.Left.{Left}
+use Rattle.refusals.specs.declared.Left.the-variants.{Zeros, Nack}
+use Rattle.refusals.specs.declared.Outcome.{Outcome}
+use Rattle.refusals.specs.declared.Outcome.the-variants.{Done, Refused}
+use Rattle.refusals.specs.Refusals.{leftBy, first}
+use Rattle.events.specs.declared.Event.{Event}
 use Rattle.events.specs.Events.{newCount, keptCount, keptOf, newOf, eventLongs}
 use Rattle.settings.specs.Settings as settings
+use Rattle.writes.specs.declared.Form.{Form}
+use Rattle.writes.specs.declared.Form.the-variants as form
 use Rattle.requests.specs.declared.Query.{Query}
-use Rattle.requests.specs.declared.Query.the-variants.{Registers, Listed, Live, NewEvents, AllEvents, Temperatures, Cells, SettingsOf}
+use Rattle.requests.specs.declared.Query.the-variants.{Registers, Listed, Bare, NewEvents, AllEvents, Temperatures, Cells, SettingsOf}
 use Rattle.requests.specs.declared.Command.{Command}
 use Rattle.requests.specs.declared.Command.the-variants.{Clear, Block, QuickBlock, AskList, Write, Ask, AskSettings, Unknown}
 use Rattle.requests.specs.declared.Expected.{Expected}
-use Rattle.requests.specs.declared.Form.{Form}
-use Rattle.requests.specs.declared.Form.the-variants as form
-use Rattle.requests.specs.declared.Refusal.the-variants.{Foreign, Damaged, Against}
 use Rattle.requests.specs.declared.Request.{Request}
 use Rattle.requests.specs.declared.Request.the-variants as request
-use Rattle.requests.specs.Requests.{be16At, le16At, expectedOf, expectedBy, between, inOneRange, against, clearOf, blockOf, addressAt, allShown, listOf, pairsOf, countOf, wellCounted, allSettings, writeCommand, writeOf, settingsOf, fieldsOf, askedOf, requestOf, commandOf}
-use Rattle.wire.specs.Wire.{be16, le16, le32, word16, words, sealed, padded, nackOf, ackOf}
-use Rattle.wire.proofs.Writing.{sealed-length, words-length}
-use Rattle.board.specs.declared.Board.{Board}
-use Rattle.board.specs.Frames.{valueAt, bodyBy, bodyOf, payloadOf, tooLong, writeNumber, refusalReply, takenReply, writeReply, queryReply, requestReply}
-use Rattle.board.proofs.Replies.{reply-length}
+use Rattle.requests.specs.Requests.{expectedOf, expectedIn, addressAt, fieldsOf, requestRows, askedOf, requestBy, requestOf}
+use Rattle.numbers.specs.Numbers.{be16, be16At, le16, le32}
+use Rattle.replies.specs.Replies.{word16, words, sealed, padded}
+use Rattle.replies.proofs.Writing.{words-length}
+use Rattle.pack.specs.declared.Pack.{Pack}
+use Rattle.hire.specs.declared.Hire.{Hire}
+use Rattle.answers.specs.Registers.{valueAt}
+use Rattle.answers.specs.Answers.{withRegister, bodyBy, bodyOf, takenReply, acceptedReply, leftReply, replyBy, askedOutcome, askedReply}
+use Rattle.answers.proofs.Made.{reply-length}
 use Rattle.port.specs.Port as port
 use Rattle.port.specs.Port.{lengthIn}
 
@@ -36,7 +44,7 @@ use Rattle.port.specs.Port.{lengthIn}
 fits : Query → ℕ → Bool
 fits (Registers command at n) pl = eqb (port.lengthBy command pl) (5 + pl)
 fits (Listed n) pl = true
-fits (Live command at n) pl = eqb (port.lengthBy command pl) (4 + 2 * n)
+fits (Bare command at n) pl = eqb (port.lengthBy command pl) (4 + 2 * n)
 fits NewEvents pl = true
 fits AllEvents pl = true
 fits Temperatures pl = true
@@ -93,30 +101,24 @@ expected c third seventh pl =
     (either (Asks pl) (eqb c 0x1D) (record { asks = refl })
     (record { asks = refl }))))))))))))))))))
 
-fields : (c : ℕ) (s : List ℕ) (pl : ℕ) (k : Command) → asks k pl ≡ true → Reads pl (fieldsOf k c s)
-unfolding reads fits asks fieldsOf clearOf blockOf listOf writeOf settingsOf port.lengthBy
-fields c s pl Clear e = either (Reads pl) (eqb (getD s 2 0) 1) (record { reads = refl }) (either (Reads pl) (eqb (getD s 2 0) 2) (record { reads = refl }) (record { reads = refl }))
-fields c s pl Block e =
-    either (Reads pl) (eqb (getD s 4 0) 0 && between 1 127 (getD s 5 0) && inOneRange (be16At s 2) (getD s 5 0)) (record { reads = eq-eqb (5 + pl) (5 + pl) refl }) (record { reads = refl })
-fields c s pl QuickBlock e =
-    either (Reads pl) (eqb 0 0 && between 1 127 (getD s 2 0) && inOneRange (le16At s 3) (getD s 2 0)) (record { reads = eq-eqb (5 + pl) (5 + pl) refl }) (record { reads = refl })
-fields c s pl AskList e =
-    either (Reads pl) (eqb (getD s 2 0) (2 * (getD s 2 0 / 2)) && between 1 63 (getD s 2 0 / 2) && allShown s (getD s 2 0 / 2)) (record { reads = refl }) (record { reads = refl })
-fields c s pl (Write f) e = either (Reads pl) (wellCounted f s (countOf f s) && allSettings (pairsOf f s (countOf f s))) (record { reads = refl }) (record { reads = refl })
-fields c s pl (Ask q) e = record { reads = e }
-fields c s pl AskSettings e = either (Reads pl) (between 1 4 (getD s 2 0) && eqb (getD s 3 0) 0 && between 1 100 (getD s 4 0)) (record { reads = refl }) (record { reads = refl })
-fields c s pl Unknown e = record { reads = refl }
+fields : (s : List ℕ) (pl : ℕ) (k : Command) → asks k pl ≡ true → Reads pl (fieldsOf k s .asks)
+unfolding reads fits asks fieldsOf port.lengthBy
+fields s pl Clear e = either (Reads pl) (eqb (getD s 2 0) 1) (record { reads = refl }) (record { reads = refl })
+fields s pl Block e = record { reads = eq-eqb (5 + pl) (5 + pl) refl }
+fields s pl QuickBlock e = record { reads = eq-eqb (5 + pl) (5 + pl) refl }
+fields s pl AskList e = record { reads = refl }
+fields s pl (Write f) e = record { reads = refl }
+fields s pl (Ask q) e = record { reads = e }
+fields s pl AskSettings e = record { reads = refl }
+fields s pl Unknown e = record { reads = refl }
 
 asked : (s : List ℕ) (pl : ℕ) → Reads pl (requestOf s)
-unfolding reads requestOf askedOf
-asked s pl =
-    let c = getD s 1 0 in
-    either (Reads pl) (ltb (length s) 4) (record { reads = refl })
-    (either (Reads pl) (eqb (getD s 0 0) 0xAA)
-    (either (Reads pl) (eqb (crcOf (take (length s - 2) s)) (le16At s (length s - 2)))
-    (either (Reads pl) (eqb (length s) (expectedBy c s .length)) (fields c s pl (expectedBy c s .command) (expected c (getD s 2 0) (getD s 6 0) pl .asks)) (record { reads = refl }))
-    (record { reads = refl }))
-    (record { reads = refl }))
+unfolding reads requestOf
+asked s pl = go (first (requestRows s))
+  where
+    go : (o : Outcome) → Reads pl (requestBy o (askedOf s))
+    go Done = fields s pl (expectedIn s .command) (expected (getD s 1 0) (getD s 2 0) (getD s 6 0) pl .asks)
+    go (Refused refusal) = record { reads = refl }
 
 -- ---- a reply in its buffer
 
@@ -125,7 +127,9 @@ Exact room reply = take (lengthIn (padded room reply)) (padded room reply) ≡ r
 
 pub padded-length : (room : ℕ) (reply : List ℕ) → length reply ≤ room → length (padded room reply) ≡ room
 unfolding padded
-padded-length room reply h = length-append reply (replicate (room - length reply) 0) ∙ ap (λ (n : ℕ). length reply + n) (length-replicate (room - length reply) 0) ∙ omega arith
+padded-length room reply h =
+    length-append reply (replicate (room - length reply) 0) ∙ ap (λ (n : ℕ). length reply + n) (length-replicate (room - length reply) 0)
+    ∙ omega arith
 
 zero-first : (n : ℕ) → eqb (getD (replicate n 0) 0 0) 0xAA ≡ false
 zero-first zero = refl
@@ -144,7 +148,8 @@ front : (room : ℕ) (xs : List ℕ) → take (length xs + 0) (padded room xs) �
 unfolding padded
 front room xs = take-append-add xs (replicate (room - length xs) 0) 0 ∙ append-nil xs
 
-told : (room c : ℕ) (ys : List ℕ) → 259 ≤ room → 2 + length ys ≤ 259 → port.lengthBy c (getD (padded room (0xAA ∷ c ∷ ys)) 2 0) ≡ 2 + length ys → Exact room (0xAA ∷ c ∷ ys)
+told : (room c : ℕ) (ys : List ℕ) → 259 ≤ room → 2 + length ys ≤ 259
+    → port.lengthBy c (getD (padded room (0xAA ∷ c ∷ ys)) 2 0) ≡ 2 + length ys → Exact room (0xAA ∷ c ∷ ys)
 unfolding lengthIn padded
 told room c ys large small e =
     let xs : List ℕ = 0xAA ∷ c ∷ ys in
@@ -156,67 +161,70 @@ told room c ys large small e =
 
 module _ (room : ℕ) (large : 259 ≤ room) where
   -- a head of two bytes, data and CRC
-  headed : (c : ℕ) (ys : List ℕ) → length (sealed (0xAA ∷ c ∷ ys)) ≤ 259 → port.lengthBy c (getD (padded room (sealed (0xAA ∷ c ∷ ys))) 2 0) ≡ 4 + length ys → Exact room (sealed (0xAA ∷ c ∷ ys))
+  headed : (c : ℕ) (ys : List ℕ) → length (sealed (0xAA ∷ c ∷ ys)) ≤ 259
+      → port.lengthBy c (getD (padded room (sealed (0xAA ∷ c ∷ ys))) 2 0) ≡ 4 + length ys → Exact room (sealed (0xAA ∷ c ∷ ys))
   unfolding sealed
   headed c ys h e =
       let n = length-append ys (le16 (crcOf (0xAA ∷ c ∷ ys))) in
       told room c (ys ++ le16 (crcOf (0xAA ∷ c ∷ ys))) large (omega (arith, n, h)) (e ∙ omega (arith, n))
 
   -- the same with the number of the data's bytes before them
-  counted : (c n : ℕ) (ys : List ℕ) → ((pl : ℕ) → port.lengthBy c pl ≡ 5 + pl) → length ys ≡ n → length (sealed (0xAA ∷ c ∷ n ∷ ys)) ≤ 259 → Exact room (sealed (0xAA ∷ c ∷ n ∷ ys))
+  counted : (c n : ℕ) (ys : List ℕ) → ((pl : ℕ) → port.lengthBy c pl ≡ 5 + pl) → length ys ≡ n → length (sealed (0xAA ∷ c ∷ n ∷ ys)) ≤ 259
+      → Exact room (sealed (0xAA ∷ c ∷ n ∷ ys))
   unfolding sealed padded
   counted c n ys says e h = headed c (n ∷ ys) h (says n ∙ omega (arith, e))
 
-  module _ (b : Board) (s : List ℕ) where
-    body : (q : Query) → ((pl : ℕ) → fits q pl ≡ true) → length (sealed (bodyOf b s q)) ≤ 259 → Exact room (sealed (bodyOf b s q))
+  module _ (p : Pack) (h : Hire) (s : List ℕ) where
+    -- the lifetime and n events
+    longs : (es : List Event) (n : ℕ) → length (words le32 (eventLongs (p .clock .seconds) es) 0 (1 + n)) ≡ 4 + 4 * n
+    longs es n = words-length 4 le32 (eventLongs (p .clock .seconds) es) 0 (1 + n) (λ w. refl) ∙ omega arith
+
+    body : (q : Query) → ((pl : ℕ) → fits q pl ≡ true) → length (sealed (bodyOf p h s q)) ≤ 259 → Exact room (sealed (bodyOf p h s q))
     unfolding bodyBy fits port.lengthBy
-    body (Registers command at n) f h =
-        counted command (2 * n) _ (λ pl. eqb-true _ (5 + pl) (f pl)) (words-length 2 (word16 (eqb command 0x03)) (valueAt b) at n (two (eqb command 0x03))) h
+    body (Registers command at n) f l =
+        counted command (2 * n) _ (λ pl. eqb-true _ (5 + pl) (f pl))
+        (words-length 2 (word16 (eqb command 0x03)) (valueAt p h) at n (two (eqb command 0x03))) l
       where
         two : (t : Bool) (w : ℕ) → length (word16 t w) ≡ 2
         two true w = refl
         two false w = refl
-    body (Listed n) f h = counted 0x09 (4 * n) _ (λ pl. refl) (words-length 4 (λ at. le16 at ++ le16 (valueAt b at)) (addressAt s) 0 n (λ w. refl)) h
-    body (Live command at n) f h =
-        headed command _ h (eqb-true _ (4 + 2 * n) (f _) ∙ ap (λ (k : ℕ). 4 + k) (sym (words-length 2 le16 (valueAt b) at n (λ w. refl))))
-    body NewEvents f h =
-        let n = newCount (b .hire .events) in
-        counted 0x11 (4 + 4 * n) _ (λ pl. refl) (words-length 4 le32 (eventLongs (b .pack .clock .seconds) (newOf (b .hire .events))) 0 (1 + n) (λ w. refl) ∙ omega arith) h
-    body AllEvents f h =
-        let n = keptCount (b .hire .events) in
-        counted 0x12 (4 + 4 * n) _ (λ pl. refl) (words-length 4 le32 (eventLongs (b .pack .clock .seconds) (keptOf (b .hire .events))) 0 (1 + n) (λ w. refl) ∙ omega arith) h
-    body Temperatures f h = counted 0x1B 6 _ (λ pl. refl) refl h
-    body Cells f h = counted 0x1C (2 * (b .pack .cells)) _ (λ pl. refl) (words-length 2 le16 (valueAt b) 0 (b .pack .cells) (λ w. refl)) h
-    body (SettingsOf kind n) f h =
-        counted 0x1D (2 * n) _ (λ pl. refl) (words-length 2 le16 (settings.registerOf (settings.ofKind (b .pack .settings) kind)) 300 n (λ w. refl)) h
+    body (Listed n) f l = counted 0x09 (4 * n) _ (λ pl. refl) (words-length 4 (withRegister (valueAt p h)) (addressAt s) 0 n (λ w. refl)) l
+    body (Bare command at n) f l =
+        headed command _ l (eqb-true _ (4 + 2 * n) (f _) ∙ ap (λ (k : ℕ). 4 + k) (sym (words-length 2 le16 (valueAt p h) at n (λ w. refl))))
+    body NewEvents f l = counted 0x11 (4 + 4 * newCount (h .events)) _ (λ pl. refl) (longs (newOf (h .events)) (newCount (h .events))) l
+    body AllEvents f l = counted 0x12 (4 + 4 * keptCount (h .events)) _ (λ pl. refl) (longs (keptOf (h .events)) (keptCount (h .events))) l
+    body Temperatures f l = counted 0x1B 6 _ (λ pl. refl) refl l
+    body Cells f l = counted 0x1C (2 * (p .cells)) _ (λ pl. refl) (words-length 2 le16 (valueAt p h) 0 (p .cells) (λ w. refl)) l
+    body (SettingsOf kind n) f l =
+        counted 0x1D (2 * n) _ (λ pl. refl) (words-length 2 le16 (settings.registerOf (settings.ofKind (p .settings) kind)) 300 n
+        (λ w. refl)) l
 
-    nack : (command error : ℕ) → length (sealed (nackOf command error)) ≤ 259 → Exact room (sealed (nackOf command error))
+    taken : (f : Form) (n : ℕ) → length (sealed (takenReply f s n)) ≤ 259 → Exact room (sealed (takenReply f s n))
+    unfolding takenReply port.lengthBy
+    taken form.Modbus n l = headed 0x10 (be16 (be16At s 2) ++ be16 n) l refl
+    taken form.Block n l = headed 0x01 (0x0B ∷ []) l refl
+    taken form.List n l = headed 0x01 (0x0D ∷ []) l refl
+
+    accepted : (q : Request) → ((pl : ℕ) → reads q pl ≡ true) → length (acceptedReply p h s q) ≤ 259 → Exact room (acceptedReply p h s q)
+    unfolding acceptedReply reads port.lengthBy
+    accepted (request.Refused refusal) f l = none room
+    accepted request.ClearEvents f l = headed 0x01 (0x02 ∷ []) l refl
+    accepted request.ClearStatistics f l = headed 0x01 (0x02 ∷ []) l refl
+    accepted (request.Write f n) g l = taken f n l
+    accepted (request.Read q) f l = body q f l
+
+    refused : (left : Left) → length (leftReply left s) ≤ 259 → Exact room (leftReply left s)
     unfolding port.lengthBy
-    nack command error h = headed 0x00 (command ∷ error ∷ []) h refl
+    refused Zeros l = none room
+    refused (Nack error) l = headed 0x00 (getD s 1 0 ∷ error ∷ []) l refl
 
-    every : (q : Request) → ((pl : ℕ) → reads q pl ≡ true) → length (requestReply b s q) ≤ 259 → Exact room (requestReply b s q)
-    unfolding requestReply refusalReply takenReply writeReply queryReply reads port.lengthBy
-    every (request.Refused Foreign) f h = none room
-    every (request.Refused (Damaged command)) f h = nack command 0x01 h
-    every (request.Refused (Against command)) f h = nack command 0x00 h
-    every request.ClearEvents f h = headed 0x01 (0x02 ∷ []) h refl
-    every request.ClearStatistics f h = headed 0x01 (0x02 ∷ []) h refl
-    every (request.Write f n) g h = go (eqb (writeNumber (b .pack .settings) (pairsOf f s n)) 0) h
-      where
-        taken : (f : Form) → length (sealed (takenReply f s n)) ≤ 259 → Exact room (sealed (takenReply f s n))
-        taken form.Modbus h = headed 0x10 (be16 (be16At s 2) ++ be16 n) h refl
-        taken form.Block h = headed 0x01 (0x0B ∷ []) h refl
-        taken form.List h = headed 0x01 (0x0D ∷ []) h refl
-
-        go : (t : Bool) → length (sealed (cond t (takenReply f s n) (nackOf (writeCommand f) 0x00))) ≤ 259 → Exact room (sealed (cond t (takenReply f s n) (nackOf (writeCommand f) 0x00)))
-        go true h = taken f h
-        go false h = nack (writeCommand f) 0x00 h
-    every (request.Read q) f h = go (tooLong b q) h
-      where
-        go : (t : Bool) → length (sealed (cond t (nackOf (commandOf q) 0x00) (bodyOf b s q))) ≤ 259 → Exact room (sealed (cond t (nackOf (commandOf q) 0x00) (bodyOf b s q)))
-        go true h = nack (commandOf q) 0x00 h
-        go false h = body q f h
+    every : (q : Request) → ((pl : ℕ) → reads q pl ≡ true) → (o : Outcome) → length (replyBy o s (acceptedReply p h s q)) ≤ 259
+        → Exact room (replyBy o s (acceptedReply p h s q))
+    unfolding replyBy
+    every q f Done l = accepted q f l
+    every q f (Refused refusal) l = refused (leftBy refusal) l
 
 -- a frame's whole reply, and nothing after it
-pub exact : (b : Board) (s : List ℕ) (room : ℕ) → 259 ≤ room → Exact room (requestReply b s (requestOf s))
-exact b s room large = every room large b s (requestOf s) (λ pl. asked s pl .reads) (reply-length b s (requestOf s))
+pub exact : (p : Pack) (h : Hire) (s : List ℕ) (room : ℕ) → 259 ≤ room → Exact room (askedReply p h s (requestOf s))
+exact p h s room large =
+    every room large p h s (requestOf s) (λ pl. asked s pl .reads) (askedOutcome p h s (requestOf s)) (reply-length p h s (requestOf s))

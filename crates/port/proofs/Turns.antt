@@ -25,21 +25,27 @@ begun {b} {bytes} =
 dropped : (n : ℕ) (xs : List ℕ) → drop (min n (length xs)) xs ≡ drop n xs
 dropped zero xs = let e : min 0 (length xs) ≡ 0 = omega arith in ap (λ (k : ℕ). drop k xs) e
 dropped (suc n) [] = let e : min (suc n) 0 ≡ 0 = omega arith in ap (λ (k : ℕ). drop {A = ℕ} k []) e
-dropped (suc n) (x ∷ xs) = let e : min (suc n) (suc (length xs)) ≡ suc (min n (length xs)) = omega arith in ap (λ (k : ℕ). drop k (x ∷ xs)) e ∙ dropped n xs
+dropped (suc n) (x ∷ xs) =
+    let e : min (suc n) (suc (length xs)) ≡ suc (min n (length xs)) = omega arith in ap (λ (k : ℕ). drop k (x ∷ xs)) e ∙ dropped n xs
 
-one-turn : (n : ℕ) (b : Board) (rest : List ℕ) → 0 < n → 0 < length rest → turnsOf n b rest .board ≡ turnsOf (n - 1) (turnOf b rest 259 .board) (drop (turnOf b rest 259 .taken) rest) .board
+one-turn : (n : ℕ) (b : Board) (rest : List ℕ) → 0 < n → 0 < length rest
+    → turnsOf n b rest .board ≡ turnsOf (n - 1) (turnOf b rest 259 .board) (drop (turnOf b rest 259 .taken) rest) .board
 unfolding turnsOf
 one-turn zero b rest l m = absurd (not-suc-le-zero l)
 one-turn (suc n) b [] l m = absurd (not-suc-le-zero m)
-one-turn (suc n) b (x ∷ xs) l m = let e : n ≡ suc n - 1 = omega arith in ap (λ (k : ℕ). turnsOf k (turnOf b (x ∷ xs) 259 .board) (drop (turnOf b (x ∷ xs) 259 .taken) (x ∷ xs)) .board) e
+one-turn (suc n) b (x ∷ xs) l m =
+    let e : n ≡ suc n - 1 = omega arith in
+    ap (λ (k : ℕ). turnsOf k (turnOf b (x ∷ xs) 259 .board) (drop (turnOf b (x ∷ xs) 259 .taken) (x ∷ xs)) .board) e
 
 module _ {b₀ : Board} {bytes : List ℕ} {b : Board} {rest : List ℕ} {turns : ℕ} (s : Serving b₀ bytes b rest turns) where
-  pub next : {t : Turn} {n : ℕ} {before after : List ℕ} → Answers b rest before t after → 259 ≡ length before → n ≡ min (t .taken) (length rest) → turns ≤ length bytes → 0 < length rest
+  pub next : {t : Turn} {n : ℕ} {before after : List ℕ} → Answers b rest before t after → 259 ≡ length before
+      → n ≡ min (t .taken) (length rest) → turns ≤ length bytes → 0 < length rest
       → Serving b₀ bytes (t .board) (take (length rest - n) (drop n rest)) (turns + 1)
   next {t} {n} a room k l m =
       let e : t ≡ turnOf b rest 259 = a .turn ∙ ap (turnOf b rest) (sym room) in
       let fewer : suc (length bytes) - turns - 1 ≡ suc (length bytes) - (turns + 1) = omega arith in
-      let whole : take (length rest - n) (drop n rest) ≡ drop n rest = take-all (length rest - n) (drop n rest) (simp length-drop (omega arith)) in
+      let whole : take (length rest - n) (drop n rest) ≡ drop n rest =
+      take-all (length rest - n) (drop n rest) (simp length-drop (omega arith)) in
       let all : take (length rest - n) (drop n rest) ≡ drop (turnOf b rest 259 .taken) rest =
       whole ∙ ap (λ (i : ℕ). drop i rest) k ∙ dropped (t .taken) rest ∙ ap (λ (x : Turn). drop (x .taken) rest) e
       in

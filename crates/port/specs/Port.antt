@@ -1,5 +1,5 @@
--- The board at one end of a raw serial line: bytes are offered as they come, each complete frame is fetched, and what goes out is its reply and
--- nothing else.
+-- The board at one end of a raw serial line: bytes are offered as they come, each complete frame is fetched, and what goes out is its
+-- reply and nothing else.
 -- Assumes nothing.
 use mathlib.Core.Bool.{cond}
 use mathlib.Core.List.{List, [], _∷_}
@@ -8,11 +8,11 @@ use Prim.Native.Nat.{ℕ, zero, suc, _+_, min}
 use lib.Dec.{eqb, ltb}
 use lib.ListN.{length, take, drop, getD}
 use Rattle.board.specs.declared.Board.{Board}
-use Rattle.board.specs.Line.{offerOf, fetchBoard, fetchReply}
+use Rattle.board.specs.Calls.{offer, fetch, boardAfter, bufferAfter, carriedBy}
 use Rattle.port.specs.declared.Turn.{Turn}
 
--- how many bytes a reply has, by its second byte and its third: a NACK 6, an ACK 5, 0x10's 8; 0x14 to 0x19 have no PL, two registers or one;
--- every other says its PL
+-- how many bytes a reply has, by its second byte and its third: a NACK 6, an ACK 5, 0x10's 8; 0x14 to 0x19 have no PL, two registers or
+-- one; every other says its PL
 unfoldable pub lengthBy : ℕ → ℕ → ℕ
 lengthBy command pl =
     cond (eqb command 0x00) 6
@@ -29,16 +29,21 @@ lengthBy command pl =
 -- how many bytes of a reply buffer are the reply: none where there was no room for one, or there is none
 unfoldable pub lengthIn : List ℕ → ℕ
 lengthIn buffer =
-    cond (ltb (length buffer) 259) 0 (cond (eqb (getD buffer 0 0) 0xAA) (min (lengthBy (getD buffer 1 0) (getD buffer 2 0)) (length buffer)) 0)
+    cond (ltb (length buffer) 259) 0
+    (cond (eqb (getD buffer 0 0) 0xAA) (min (lengthBy (getD buffer 1 0) (getD buffer 2 0)) (length buffer)) 0)
 
 -- ---- a turn: bytes are offered, and the frame that is then held, if there is one, is fetched into a buffer of so many bytes
 
 abbrev pub bufferOf : Board → List ℕ → ℕ → List ℕ
-bufferOf b bytes room = fetchReply (offerOf b bytes .board) room
+bufferOf b bytes room = bufferAfter (boardAfter b (offer bytes)) (fetch room)
 
 abbrev pub turnOf : Board → List ℕ → ℕ → Turn
 turnOf b bytes room =
-    record { taken = offerOf b bytes .taken; length = lengthIn (bufferOf b bytes room); board = fetchBoard (offerOf b bytes .board) room }
+    record {
+      taken = carriedBy b (offer bytes);
+      length = lengthIn (bufferOf b bytes room);
+      board = boardAfter (boardAfter b (offer bytes)) (fetch room);
+    }
 
 pub record Answers (b : Board) (bytes before : List ℕ) (r : Turn) (after : List ℕ) : Type 0 where
   pub turn : r ≡ turnOf b bytes (length before)
@@ -63,7 +68,8 @@ unfoldable pub turnsOf : ℕ → Board → List ℕ → Served
 turnsOf zero b bytes = still b bytes
 turnsOf (suc n) b [] = still b []
 turnsOf (suc n) b (x ∷ xs) =
-    said (take (turnOf b (x ∷ xs) 259 .length) (bufferOf b (x ∷ xs) 259)) (turnsOf n (turnOf b (x ∷ xs) 259 .board) (drop (turnOf b (x ∷ xs) 259 .taken) (x ∷ xs)))
+    said (take (turnOf b (x ∷ xs) 259 .length) (bufferOf b (x ∷ xs) 259))
+    (turnsOf n (turnOf b (x ∷ xs) 259 .board) (drop (turnOf b (x ∷ xs) 259 .taken) (x ∷ xs)))
 
 -- a turn takes a byte at least, but the first where a frame is held
 unfoldable pub servedOf : Board → List ℕ → Served

@@ -4,7 +4,7 @@ ghost use Prim.Native.Nat.{_≤_};
 ghost use lib.ListN.{length};
 ghost use Rattle.port.specs.Port.{lengthBy, lengthIn, Answers, servedOf};
 use board::Board;
-use output::least;
+use numbers::lesser;
 
 const OUTPUT: i32 = 1;
 
@@ -28,10 +28,10 @@ pub fn serve(start: Board, bytes: &[u8]) -> Board
     let mut turns = 0;
     while turns <= bytes.len() && 0 < rest.len() {
         let turn = answer(board, rest, &mut reply);
-        let length = least(turn.length, ROOM);
+        let length = lesser(turn.length, ROOM);
         io::write_all(OUTPUT, &reply[0..length]);
         board = turn.board;
-        let taken = least(turn.taken, rest.len());
+        let taken = lesser(turn.taken, rest.len());
         rest = &rest[taken..];
         turns += 1;
     }
@@ -63,7 +63,7 @@ fn length_in(buffer: &[u8]) -> usize
     if buffer[0] != 0xAA {
         return 0;
     }
-    least(length_by(buffer[1], buffer[2]), buffer.len())
+    lesser(length_by(buffer[1], buffer[2]), buffer.len())
 }
 
 // A NACK, an ACK, 0x10's, those with no length byte; every other says its own.

@@ -15,15 +15,16 @@ use Rattle.requests.proofs.Lengths.{least-of, prefix, settled}
 use Rattle.receiver.specs.declared.Receiver.{Receiver}
 use Rattle.receiver.specs.Receiver.{noBytes, heldOf, complete, isHeld, skips, withByte, offeredOf}
 use Rattle.receiver.specs.Line.{Cut, unfinished, framed, cut, Turn, offers, fetches, Line, heard, ran, Ended, Served}
+use Rattle.receiver.proofs.Filling.{done, free}
 use Rattle.receiver.proofs.Through.{none-held, through, after-fetch, same}
 
 -- ---- a frame at the front of a stream
 
 -- the frame that a stream begins, if it is complete, and what the cut goes on with
-abbrev first : List ℕ → Cut → Cut
-first w next = cond (complete w) (framed (take (lengthOf w) w) next) (unfinished w)
+abbrev firstFrame : List ℕ → Cut → Cut
+firstFrame w next = cond (complete w) (framed (take (lengthOf w) w) next) (unfinished w)
 
-cut-off : (f bs w : List ℕ) (next : Cut) → f ++ bs ≡ w → length f ≡ lengthOf w → first w next ≡ framed f next
+cut-off : (f bs w : List ℕ) (next : Cut) → f ++ bs ≡ w → length f ≡ lengthOf w → firstFrame w next ≡ framed f next
 cut-off f bs w next e n =
     let l = sym (ap length e) ∙ length-append f bs in
     let t : take (lengthOf w) w ≡ f = ap (take (lengthOf w)) (sym e) ∙ take-at f bs (lengthOf w) n in
@@ -72,6 +73,9 @@ skipped : (b : ℕ) → eqb b 0xAA ≡ false → withByte noBytes b ≡ noBytes
 unfolding withByte
 skipped b e = rw e
 
+one-byte : (r : Receiver) (b : ℕ) → isHeld r ≡ false → offeredOf r (b ∷ []) ≡ done 1 (withByte r b)
+one-byte r b e = free r (b ∷ []) e ∙ ap (λ (t : Bool). done (cond t 0 1) (cond t r (withByte r b))) e
+
 -- whether a frame is held, by the length of the frame that the stream w begins
 held-in : (r : Receiver) (bs w : List ℕ) → heldOf r ++ bs ≡ w → isHeld r ≡ leb (lengthOf w) (length (heldOf r))
 unfolding isHeld
@@ -85,7 +89,8 @@ bytewise [] = fetches 259 ∷ []
 bytewise (b ∷ bs) = fetches 259 ∷ offers 1 ∷ bytewise bs
 
 module _ {S Reply : Type 0} (answer : S → List ℕ → S × Reply) where
-  answered : (s : S) (f : List ℕ) {l : Line S Reply} {c : Cut} → Served answer (answer s f .0) l c → Served answer s (heard (answer s f .1) l) (framed f c)
+  answered : (s : S) (f : List ℕ) {l : Line S Reply} {c : Cut} → Served answer (answer s f .0) l c
+      → Served answer s (heard (answer s f .1) l) (framed f c)
   answered s f a = record { replies = ap (λ (rs : List Reply). answer s f .1 ∷ rs) (a .replies); state = a .state; held = a .held }
 
   -- nothing has come of a frame; or some has come of the frame that the stream w begins, and `pass` bytes of it are still to come
@@ -93,8 +98,8 @@ module _ {S Reply : Type 0} (answer : S → List ℕ → S × Reply) where
   Outside bs = (s : S) → Served answer s (through answer s noBytes bs) (cut 0 bs)
 
   abbrev Inside : List ℕ → Type 0
-  Inside bs = (w : List ℕ) (pass : ℕ) (s : S) (r : Receiver) → heldOf r ++ bs ≡ w → length (heldOf r) + pass ≡ lengthOf w → 0 < length (heldOf r)
-      → Served answer s (through answer s r bs) (first w (cut pass bs))
+  Inside bs = (w : List ℕ) (pass : ℕ) (s : S) (r : Receiver) → heldOf r ++ bs ≡ w → length (heldOf r) + pass ≡ lengthOf w
+      → 0 < length (heldOf r) → Served answer s (through answer s r bs) (firstFrame w (cut pass bs))
 
   outside-none : Outside []
   outside-none s = rw none-held (record { replies = refl; state = refl; held = refl })
@@ -103,17 +108,20 @@ module _ {S Reply : Type 0} (answer : S → List ℕ → S × Reply) where
   outside-more b bs f g s = rw none-held (go (eqb b 0xAA) refl)
     where
       go : (t : Bool) → eqb b 0xAA ≡ t
-          → Served answer s (through answer s (withByte noBytes b) bs) (cond t (first (b ∷ bs) (cut (lengthOf (b ∷ bs) - 1) bs)) (cut 0 bs))
+          → Served answer s (through answer s (withByte noBytes b) bs)
+          (cond t (firstFrame (b ∷ bs) (cut (lengthOf (b ∷ bs) - 1) bs)) (cut 0 bs))
       go true e =
           let w : heldOf (withByte noBytes b) ≡ b ∷ [] = grown noBytes b (ap not e) in
-          g (b ∷ bs) (lengthOf (b ∷ bs) - 1) s (withByte noBytes b) (ap (λ (h : List ℕ). h ++ bs) w) (rw w (omega (arith, least-of (b ∷ bs)))) (rw w (omega arith))
+          g (b ∷ bs) (lengthOf (b ∷ bs) - 1) s (withByte noBytes b) (ap (λ (h : List ℕ). h ++ bs) w)
+          (rw w (omega (arith, least-of (b ∷ bs)))) (rw w (omega arith))
       go false e = rw (skipped b e) (f s)
 
   -- all of the frame has come: it is answered, and let go
   inside-complete : (bs : List ℕ) → Outside bs → (w : List ℕ) (s : S) (r : Receiver) → heldOf r ++ bs ≡ w → length (heldOf r) ≡ lengthOf w
-      → Served answer s (through answer s r bs) (first w (cut 0 bs))
+      → Served answer s (through answer s r bs) (firstFrame w (cut 0 bs))
   inside-complete bs f w s r e n =
-      rw (after-fetch answer s bs r (held-in r bs w e ∙ le-leb (lengthOf w) (length (heldOf r)) (omega arith)), cut-off (heldOf r) bs w (cut 0 bs) e n)
+      let all = held-in r bs w e ∙ le-leb (lengthOf w) (length (heldOf r)) (omega arith) in
+      rw (after-fetch answer s bs r all, cut-off (heldOf r) bs w (cut 0 bs) e n)
       (answered s (heldOf r) (f (answer s (heldOf r) .0)))
 
   inside-none : Outside [] → Inside []
@@ -148,7 +156,6 @@ module _ {S Reply : Type 0} (answer : S → List ℕ → S × Reply) where
 
   -- The end can always be reached, from any receiver on.
   pub ends : (bs : List ℕ) (s : S) (r : Receiver) → Ended (ran answer (bytewise bs) s r bs)
-  unfolding offeredOf
   ends [] s r = go (isHeld r) refl
     where
       go : (t : Bool) → isHeld r ≡ t → Ended (ran answer (bytewise []) s r [])
@@ -156,7 +163,8 @@ module _ {S Reply : Type 0} (answer : S → List ℕ → S × Reply) where
       go false e = rw e (refl, e)
   ends (b ∷ bs) s r = go (isHeld r) refl (ends bs (answer s (heldOf r) .0) (withByte noBytes b)) (ends bs s (withByte r b))
     where
-      go : (t : Bool) → isHeld r ≡ t → Ended (ran answer (bytewise bs) (answer s (heldOf r) .0) (withByte noBytes b) bs) → Ended (ran answer (bytewise bs) s (withByte r b) bs)
+      go : (t : Bool) → isHeld r ≡ t → Ended (ran answer (bytewise bs) (answer s (heldOf r) .0) (withByte noBytes b) bs)
+          → Ended (ran answer (bytewise bs) s (withByte r b) bs)
           → Ended (ran answer (bytewise (b ∷ bs)) s r (b ∷ bs))
-      go true e i j = rw (e, none-held) i
-      go false e i j = rw e j
+      go true e i j = rw (e, one-byte noBytes b none-held) i
+      go false e i j = rw (e, one-byte r b e) j

@@ -6,11 +6,11 @@ use mathlib.Core.List.{List, [], _∷_, _++_, append-nil}
 use Prim.Native.Nat.{ℕ, suc, _≤_}
 use native.Mathlib.Nat.{not-suc-le-zero}
 use native.Mathlib.Omega.{arith}
-use lib.Dec.{eqb, ltb}
+use lib.Dec.{eqb}
 use lib.ListN.{length, take, drop, getD, length-append}
 use lib.Seq.{take-append-seam, drop-append-add, drop-drop, append-snoc}
 use borrow.Author.Tests.{ne-eqb, leb-true, le-ltb}
-use Rattle.requests.specs.Requests.{lengthOf}
+use Rattle.requests.specs.Requests.{lengthOf, foreign}
 use Rattle.requests.proofs.Lengths.{least-of}
 use Rattle.receiver.specs.declared.Receiver.{Receiver}
 use Rattle.receiver.specs.Receiver.{noBytes, heldOf, holding, complete, isHeld, skips, withByte, filled, taken}
@@ -27,7 +27,10 @@ is-held heard = ap complete (held heard)
 -- ---- one byte more
 
 -- once a frame has begun, the byte is behind it; before that it begins one or is skipped
-begun-more : (heard : List ℕ) (b : ℕ) → begun (heard ++ (b ∷ [])) ≡ cond (skips (begun heard) b) (begun heard) (begun heard ++ (b ∷ []))
+abbrev withMore : List ℕ → ℕ → List ℕ
+withMore held b = cond (skips held b) held (held ++ (b ∷ []))
+
+begun-more : (heard : List ℕ) (b : ℕ) → begun (heard ++ (b ∷ [])) ≡ withMore (begun heard) b
 begun-more [] b = go (eqb b 0xAA)
   where
     go : (t : Bool) → cond t (b ∷ []) [] ≡ cond (not t) [] (b ∷ [])
@@ -35,8 +38,8 @@ begun-more [] b = go (eqb b 0xAA)
     go false = refl
 begun-more (x ∷ heard) b = go (eqb x 0xAA) (begun-more heard b)
   where
-    go : (t : Bool) → begun (heard ++ (b ∷ [])) ≡ cond (skips (begun heard) b) (begun heard) (begun heard ++ (b ∷ []))
-        → cond t (x ∷ heard ++ (b ∷ [])) (begun (heard ++ (b ∷ []))) ≡ cond (skips (cond t (x ∷ heard) (begun heard)) b) (cond t (x ∷ heard) (begun heard)) (cond t (x ∷ heard) (begun heard) ++ (b ∷ []))
+    go : (t : Bool) → begun (heard ++ (b ∷ [])) ≡ withMore (begun heard) b
+        → cond t (x ∷ heard ++ (b ∷ [])) (begun (heard ++ (b ∷ []))) ≡ withMore (cond t (x ∷ heard) (begun heard)) b
     go true i = rw (ne-eqb (suc (length heard)) 0 (λ z. omega arith)) refl
     go false i = i
 
@@ -85,7 +88,8 @@ heard-taken (b ∷ bs) r = go (isHeld r) (heard-taken bs (withByte r b))
 pub as-many : (bs heard : List ℕ) → taken (afterHearing heard) bs ≡ takes heard bs
 as-many [] heard = refl
 as-many (b ∷ bs) heard =
-    ap₂ (λ (t : Bool) (n : ℕ). cond t 0 (suc n)) (is-held heard) (ap (λ (r : Receiver). taken r bs) (one-more heard b) ∙ as-many bs (heard ++ (b ∷ [])))
+    ap₂ (λ (t : Bool) (n : ℕ). cond t 0 (suc n)) (is-held heard)
+    (ap (λ (r : Receiver). taken r bs) (one-more heard b) ∙ as-many bs (heard ++ (b ∷ [])))
 
 -- ---- a complete frame is ours: it begins with 0xAA and has four bytes at least
 
@@ -93,13 +97,14 @@ begins : (heard : List ℕ) → 1 ≤ length (begun heard) → eqb (getD (begun 
 begins [] h = absurd (not-suc-le-zero h)
 begins (b ∷ heard) h = go (eqb b 0xAA) refl h (begins heard)
   where
-    go : (t : Bool) → eqb b 0xAA ≡ t → 1 ≤ length (cond t (b ∷ heard) (begun heard)) → (1 ≤ length (begun heard) → eqb (getD (begun heard) 0 0) 0xAA ≡ true)
+    go : (t : Bool) → eqb b 0xAA ≡ t → 1 ≤ length (cond t (b ∷ heard) (begun heard))
+        → (1 ≤ length (begun heard) → eqb (getD (begun heard) 0 0) 0xAA ≡ true)
         → eqb (getD (cond t (b ∷ heard) (begun heard)) 0 0) 0xAA ≡ true
     go true e h i = e
     go false e h i = i h
 
-pub ours : (heard : List ℕ) → complete (begun heard) ≡ true → (ltb (length (begun heard)) 4 ≡ false) × (eqb (getD (begun heard) 0 0) 0xAA ≡ true)
+pub ours : (heard : List ℕ) → complete (begun heard) ≡ true → foreign (begun heard) ≡ false
 ours heard e =
     let l = leb-true (lengthOf (begun heard)) (length (begun heard)) e in
     let four : 4 ≤ length (begun heard) = omega (arith, least-of (begun heard)) in
-    (le-ltb (length (begun heard)) 4 four, begins heard (omega arith))
+    rw (le-ltb (length (begun heard)) 4 four, begins heard (omega arith))

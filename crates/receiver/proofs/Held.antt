@@ -7,9 +7,8 @@ use native.Mathlib.Omega.{arith}
 use lib.ListN.{length, take, drop, set, length-append, length-map, length-take}
 use lib.Seq.{set-split, append-snoc, length-take-le}
 use Rattle.receiver.specs.declared.Receiver.{Receiver}
-use Rattle.receiver.specs.declared.Offered.{Offered}
 use Rattle.receiver.specs.Receiver.{heldOf, holding, isHeld, offeredOf}
-use Rattle.receiver.proofs.Filling.{Full}
+use Rattle.receiver.proofs.Filling.{Full, done, free}
 
 -- what owning an array tells of its list
 pub length-from : (A B : Type 0) (f : A → B) (l : List A) (n : ℕ) → length (map f l) ≡ n → length l ≡ n
@@ -33,9 +32,6 @@ front-length r n e = sym (length-take-le n (r .bytes) (within r n e))
 abbrev receiver : List ℕ → ℕ → Receiver
 receiver l n = record { bytes = l; count = n }
 
-abbrev done : ℕ → Receiver → Offered
-done i r = record { number = 0; taken = i; receiver = r }
-
 -- a byte stored at the first place after what is held
 pub stored : (r : Receiver) (b n : ℕ) → n ≡ length (heldOf r) → n < length (r .bytes)
     → receiver (set (r .bytes) n b) (n + 1) ≡ holding (heldOf r ++ (b ∷ [])) r
@@ -52,5 +48,4 @@ stored r b n e h =
 -- an offer that ends as the definition does
 pub offered : {r₀ r : Receiver} {xs : List ℕ} {i : ℕ} → Full r₀ r xs i → isHeld r₀ ≡ false
     → done i r ≡ offeredOf r₀ xs
-unfolding offeredOf
-offered f w = rw w (ap₂ done (f .count) (f .held))
+offered {r₀} {r} {xs} f w = ap₂ done (f .count) (f .held) ∙ sym (free r₀ xs w)

@@ -1,5 +1,5 @@
--- Offers and fetches in any order come to what the bytes one by one come to, the receiver's array included: what an offer takes it takes byte
--- by byte, and a frame that is held is answered before the next byte is taken.
+-- Offers and fetches in any order come to what the bytes one by one come to, the receiver's array included: what an offer takes it takes
+-- byte by byte, and a frame that is held is answered before the next byte is taken.
 -- Assumes nothing.
 use mathlib.Core.Path.{_≡_, refl, sym, ap, _∙_}
 use mathlib.Core.Bool.{Bool, true, false, cond}
@@ -7,6 +7,7 @@ use mathlib.Core.List.{List, [], _∷_}
 use Prim.Native.Nat.{ℕ, zero, suc}
 use lib.Dec.{ltb}
 use lib.ListN.{take, drop}
+use Rattle.refusals.specs.Refusals.{first}
 use Rattle.requests.specs.Requests.{expectedOf, lengthOf}
 use Rattle.receiver.specs.declared.Receiver.{Receiver}
 use Rattle.receiver.specs.Receiver.{noBytes, heldOf, isHeld, withByte, filled, taken, offeredOf}
@@ -44,10 +45,11 @@ module _ {S Reply : Type 0} (answer : S → List ℕ → S × Reply) where
 
   after-offer : (s : S) (n : ℕ) (bs : List ℕ) (r : Receiver)
       → through s r bs ≡ through s (offeredOf r (take n bs) .receiver) (drop (offeredOf r (take n bs) .taken) bs)
-  unfolding offeredOf
+  unfolding offeredOf first
   after-offer s n bs r = go (isHeld r) refl
     where
-      go : (t : Bool) → isHeld r ≡ t → through s r bs ≡ through s (offeredOf r (take n bs) .receiver) (drop (offeredOf r (take n bs) .taken) bs)
+      go : (t : Bool) → isHeld r ≡ t
+          → through s r bs ≡ through s (offeredOf r (take n bs) .receiver) (drop (offeredOf r (take n bs) .taken) bs)
       go true e = rw e
       go false e = rw e (poured s n bs r)
 
@@ -68,7 +70,8 @@ module _ {S Reply : Type 0} (answer : S → List ℕ → S × Reply) where
   same (fetches n ∷ turns) s r bs e =
       go (ltb n 259) refl (isHeld r) refl (same turns (answer s (heldOf r) .0) noBytes bs) (same turns s r bs) e
     where
-      go : (u : Bool) → ltb n 259 ≡ u → (t : Bool) → isHeld r ≡ t → Same turns (answer s (heldOf r) .0) noBytes bs → Same turns s r bs → Same (fetches n ∷ turns) s r bs
+      go : (u : Bool) → ltb n 259 ≡ u → (t : Bool) → isHeld r ≡ t → Same turns (answer s (heldOf r) .0) noBytes bs
+          → Same turns s r bs → Same (fetches n ∷ turns) s r bs
       go true d t e i j = rw d j
       go false d true e i j = rw (d, e) (λ x. ap (heard (answer s (heldOf r) .1)) (i x) ∙ sym (after-fetch s bs r e))
       go false d false e i j = rw (d, e) j

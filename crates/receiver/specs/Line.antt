@@ -1,6 +1,6 @@
 -- Any cutting of the same bytes gives the same replies and end state, if only offers and fetches come between, each held frame is fetched
--- with room, and bytes not taken are offered again. First the stream cut into frames with all of it in view; then the same stream given to a
--- receiver by offers and fetches, in any order and in pieces of any size. `answer` is any board: its state after a frame, and its reply.
+-- with room, and bytes not taken are offered again. First the stream cut into frames with all of it in view; then the same stream given to
+-- a receiver by offers and fetches, in any order and in pieces of any size. `answer` is any board: its state after a frame, and its reply.
 -- Assumes nothing.
 use mathlib.Core.Path.{_≡_}
 use mathlib.Core.Bool.{Bool, false, cond, not, _&&_}
@@ -75,7 +75,8 @@ module _ {S Reply : Type 0} (answer : S → List ℕ → S × Reply) where
   abbrev pub ran : List Turn → S → Receiver → List ℕ → Line S Reply
   ran [] s r left = still s r left
   ran (offers n ∷ cs) s r left = ran cs s (offeredOf r (take n left) .receiver) (drop (offeredOf r (take n left) .taken) left)
-  ran (fetches n ∷ cs) s r left = cond (answers r n) (heard (answer s (heldOf r) .1) (ran cs (answer s (heldOf r) .0) noBytes left)) (ran cs s r left)
+  ran (fetches n ∷ cs) s r left =
+      cond (answers r n) (heard (answer s (heldOf r) .1) (ran cs (answer s (heldOf r) .0) noBytes left)) (ran cs s r left)
 
 -- every byte is taken, and no frame is held
 abbrev pub Ended : {S Reply : Type 0} → Line S Reply → Type 0

@@ -6,6 +6,11 @@ use mathlib.Core.List.{List, [], _∷_, _++_}
 use Prim.Native.Nat.{ℕ, suc}
 use lib.Dec.{eqb, leb}
 use lib.ListN.{length, take, drop, replicate}
+use Rattle.refusals.specs.declared.Refusal.{Refusal}
+use Rattle.refusals.specs.declared.Refusal.the-variants.{FrameHeld}
+use Rattle.refusals.specs.declared.Outcome.{Outcome}
+use Rattle.refusals.specs.declared.Outcome.the-variants.{Done, Refused}
+use Rattle.refusals.specs.Refusals.{first}
 use Rattle.requests.specs.Requests.{lengthOf}
 use Rattle.receiver.specs.declared.Receiver.{Receiver}
 use Rattle.receiver.specs.declared.Offered.{Offered}
@@ -45,9 +50,14 @@ abbrev pub taken : Receiver → List ℕ → ℕ
 taken r [] = 0
 taken r (b ∷ bs) = cond (isHeld r) 0 (suc (taken (withByte r b) bs))
 
--- 6, an offer (of no bytes too) while a frame is held, nothing taken
+-- an offer (of no bytes too) while a frame is held
+abbrev pub offerRows : Receiver → List (Refusal × Bool)
+offerRows r = (FrameHeld, isHeld r) ∷ []
+
+-- refused, nothing taken
+abbrev pub offeredBy : Outcome → Receiver → List ℕ → Offered
+offeredBy Done r bytes = record { outcome = Done; taken = taken r bytes; receiver = filled r bytes }
+offeredBy (Refused refusal) r bytes = record { outcome = Refused refusal; taken = 0; receiver = r }
+
 unfoldable pub offeredOf : Receiver → List ℕ → Offered
-offeredOf r bytes =
-    cond (isHeld r)
-    (record { number = 6; taken = 0; receiver = r })
-    (record { number = 0; taken = taken r bytes; receiver = filled r bytes })
+offeredOf r bytes = offeredBy (first (offerRows r)) r bytes

@@ -5,6 +5,8 @@ ghost use mathlib.Core.Path.{_≡_};
 ghost use Prim.Native.Nat.{_≤_, _<_};
 ghost use lib.ListN.{length};
 ghost use Rattle.receiver.specs.Receiver.{heldOf, isHeld, withByte, noBytes, offeredOf};
+use refusals::Outcome;
+use refusals::Refusal;
 
 // The longest frame: 9 bytes and a PL of 255.
 pub const ROOM: usize = 264;
@@ -15,9 +17,9 @@ pub struct Receiver {
     pub count: u16,
 }
 
-// What an offer gives back: its number, how many bytes it took, and the receiver after it.
+// What an offer comes to, how many bytes it took, and the receiver after it.
 pub struct Offered {
-    pub number: u8,
+    pub outcome: Outcome,
     pub taken: usize,
     pub receiver: Receiver,
 }
@@ -33,13 +35,13 @@ impl Receiver {
         }
     }
 
-    // Takes bytes up to the end of the first complete frame; 6, and none taken, while a frame is held.
+    // Takes bytes up to the end of the first complete frame; refused, and none taken, while a frame is held.
     pub fn offer(self, bytes: &[u8]) -> Offered
         ensures { λ r. ⌜ r ≡ offeredOf self (now (bytes .entry)) ⌝ }
     {
         if self.is_held() {
             return Offered {
-                number: 6,
+                outcome: Outcome::Refused(Refusal::FrameHeld),
                 taken: 0,
                 receiver: self,
             };
@@ -49,7 +51,7 @@ impl Receiver {
         while taken < bytes.len() {
             if receiver.is_held() {
                 return Offered {
-                    number: 0,
+                    outcome: Outcome::Done,
                     taken,
                     receiver,
                 };
@@ -58,7 +60,7 @@ impl Receiver {
             taken += 1;
         }
         Offered {
-            number: 0,
+            outcome: Outcome::Done,
             taken,
             receiver,
         }

@@ -11,7 +11,7 @@ use lib.ListN.{length, getD, List·getD-append}
 use borrow.Author.Tests.{ltb-true, ltb-false, lt-leb}
 use Rattle.requests.specs.declared.Command.{Command}
 use Rattle.requests.specs.declared.Expected.{Expected}
-use Rattle.requests.specs.Requests.{expect, expectedOf, expectedBy, lengthOf}
+use Rattle.requests.specs.Requests.{expect, expectedOf, lengthOf}
 use Rattle.requests.proofs.Sound.{least}
 
 -- two lengths of a request of which k bytes have come: they are equal, or neither is reached
@@ -41,7 +41,7 @@ either : (t : Bool) {x y : List ℕ → Expected} → Readable x → Readable y 
 either true f g = f
 either false f g = g
 
-expected : (c : ℕ) → Readable (expectedBy c)
+expected : (c : ℕ) → Readable (λ bytes. expectedOf c (getD bytes 2 0) (getD bytes 6 0))
 unfolding expectedOf
 expected c =
     either (eqb c 0x02) fixed

@@ -1,3 +1,5 @@
 pub mod Tags
+pub mod Outcomes
 pub mod Sound
 pub mod Lengths
+mod Facts

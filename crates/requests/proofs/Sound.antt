@@ -1,31 +1,34 @@
--- What holds of a request whatever its bytes: the command that it is refused or answered with is its second byte, the registers that it
--- reads lie in the three ranges, and its length is 4 to 264. By the tests in the definition's order.
+-- What holds of a request whatever its bytes: the command that it is answered with is its second byte, the registers that it reads lie in
+-- the three ranges, and its length is 4 to 264. By the tests in the definition's order.
 -- Assumes nothing.
 use mathlib.Core.Path.{_≡_, refl, sym, ap, _∙_}
 use mathlib.Core.Bool.{Bool, true, false, _&&_, _||_, cond, and-eq-true-iff, false≢true}
 use mathlib.Core.List.{List, []}
-use Prim.Native.Nat.{ℕ, zero, suc, _+_, _-_, _*_, _/_, _≤_, _<_}
+use Prim.Native.Nat.{ℕ, zero, suc, _+_, _*_, _/_, _≤_, _<_}
 use native.Mathlib.Omega.{arith}
 use borrow.Author.Tests.{eqb-true, eqb-false, leb-true, le-leb, lt-leb}
-use lib.Dec.{eqb, leb, ltb}
-use lib.ListN.{length, take, getD}
-use Rattle.crc.specs.Crc.{crcOf}
+use lib.Dec.{eqb, leb}
+use lib.ListN.{getD}
+use Rattle.refusals.specs.declared.Outcome.{Outcome}
+use Rattle.refusals.specs.declared.Outcome.the-variants.{Done, Refused}
+use Rattle.refusals.specs.Refusals.{first}
+use Rattle.writes.specs.declared.Form.the-variants as form
+use Rattle.numbers.specs.Numbers.{be16At, le16At}
+use Rattle.writes.specs.Writes.{between, writeCommand}
 use Rattle.requests.specs.declared.Query.{Query}
-use Rattle.requests.specs.declared.Query.the-variants.{Registers, Listed, Live, NewEvents, AllEvents, Temperatures, Cells, SettingsOf}
-use Rattle.requests.specs.declared.Form.the-variants as form
+use Rattle.requests.specs.declared.Query.the-variants.{Registers, Listed, Bare, NewEvents, AllEvents, Temperatures, Cells, SettingsOf}
 use Rattle.requests.specs.declared.Command.{Command}
 use Rattle.requests.specs.declared.Command.the-variants.{Clear, Block, QuickBlock, AskList, Write, Ask, AskSettings, Unknown}
 use Rattle.requests.specs.declared.Expected.{Expected}
-use Rattle.requests.specs.declared.Refusal.the-variants.{Foreign, Damaged, Against}
 use Rattle.requests.specs.declared.Request.{Request}
 use Rattle.requests.specs.declared.Request.the-variants as request
-use Rattle.requests.specs.Requests.{be16At, le16At, expect, expectedOf, expectedBy, inOneRange, between, against, clearOf, blockOf, addressAt, allShown, listOf, pairsOf, countOf, wellCounted, allSettings, writeCommand, writeOf, settingsOf, fieldsOf, askedOf, requestOf, commandOf}
+use Rattle.requests.specs.Requests.{expect, expectedOf, expectedIn, inOneRange, addressAt, allShown, fieldsOf, fieldsIn}
+use Rattle.requests.specs.Requests.{requestRows, askedOf, requestBy, requestOf, commandOf}
+use Rattle.requests.proofs.Outcomes.{none-applies}
 
--- the command that a request is refused or answered with; c where there is none
+-- the command that a request is answered with; c where it has none of its own
 unfoldable pub commandIn : ℕ → Request → ℕ
-commandIn c (request.Refused Foreign) = c
-commandIn c (request.Refused (Damaged command)) = command
-commandIn c (request.Refused (Against command)) = command
+commandIn c (request.Refused refusal) = c
 commandIn c request.ClearEvents = c
 commandIn c request.ClearStatistics = c
 commandIn c (request.Write f n) = writeCommand f
@@ -35,7 +38,7 @@ commandIn c (request.Read q) = commandOf q
 unfoldable pub namedBy : Query → ℕ
 namedBy (Registers command at n) = n
 namedBy (Listed n) = n
-namedBy (Live command at n) = n
+namedBy (Bare command at n) = n
 namedBy NewEvents = 0
 namedBy AllEvents = 0
 namedBy Temperatures = 0
@@ -45,7 +48,7 @@ namedBy (SettingsOf kind n) = 0
 unfoldable pub registerIn : List ℕ → Query → ℕ → ℕ
 registerIn s (Registers command at n) i = at + i
 registerIn s (Listed n) i = addressAt s i
-registerIn s (Live command at n) i = at + i
+registerIn s (Bare command at n) i = at + i
 registerIn s NewEvents i = i
 registerIn s AllEvents i = i
 registerIn s Temperatures i = i
@@ -56,7 +59,7 @@ registerIn s (SettingsOf kind n) i = i
 unfoldable pub inRange : List ℕ → Query → Bool
 inRange s (Registers command at n) = inOneRange at n
 inRange s (Listed n) = allShown s n
-inRange s (Live command at n) = inOneRange at n
+inRange s (Bare command at n) = inOneRange at n
 inRange s NewEvents = true
 inRange s AllEvents = true
 inRange s Temperatures = true
@@ -133,7 +136,8 @@ module _ (s : List ℕ) (c third seventh : ℕ) where
     least : 4 ≤ e .length
     most : third ≤ 255 → seventh ≤ 255 → e .length ≤ 264
 
-  byte : (k : ℕ) (x : Expected) {y : Expected} → byteOf c (x .command) ≡ k → asksInRange s (x .command) ≡ true → 4 ≤ x .length → (third ≤ 255 → seventh ≤ 255 → x .length ≤ 264) → Stands y → Stands (cond (eqb c k) x y)
+  byte : (k : ℕ) (x : Expected) {y : Expected} → byteOf c (x .command) ≡ k → asksInRange s (x .command) ≡ true → 4 ≤ x .length
+      → (third ≤ 255 → seventh ≤ 255 → x .length ≤ 264) → Stands y → Stands (cond (eqb c k) x y)
   byte k x {y} p r l m q = go (eqb c k) refl
     where
       go : (t : Bool) → eqb c k ≡ t → Stands (cond t x y)
@@ -152,12 +156,12 @@ module _ (s : List ℕ) (c third seventh : ℕ) where
       (byte 0x10 (expect (9 + seventh) (Write form.Modbus)) refl refl (omega arith) (λ h k. omega arith)
       (byte 0x11 (expect 4 (Ask NewEvents)) refl refl (omega arith) (λ h k. omega arith)
       (byte 0x12 (expect 4 (Ask AllEvents)) refl refl (omega arith) (λ h k. omega arith)
-      (byte 0x14 (expect 4 (Ask (Live 0x14 36 2))) refl refl (omega arith) (λ h k. omega arith)
-      (byte 0x15 (expect 4 (Ask (Live 0x15 38 2))) refl refl (omega arith) (λ h k. omega arith)
-      (byte 0x16 (expect 4 (Ask (Live 0x16 41 1))) refl refl (omega arith) (λ h k. omega arith)
-      (byte 0x17 (expect 4 (Ask (Live 0x17 40 1))) refl refl (omega arith) (λ h k. omega arith)
-      (byte 0x18 (expect 4 (Ask (Live 0x18 50 1))) refl refl (omega arith) (λ h k. omega arith)
-      (byte 0x19 (expect 4 (Ask (Live 0x19 32 2))) refl refl (omega arith) (λ h k. omega arith)
+      (byte 0x14 (expect 4 (Ask (Bare 0x14 36 2))) refl refl (omega arith) (λ h k. omega arith)
+      (byte 0x15 (expect 4 (Ask (Bare 0x15 38 2))) refl refl (omega arith) (λ h k. omega arith)
+      (byte 0x16 (expect 4 (Ask (Bare 0x16 41 1))) refl refl (omega arith) (λ h k. omega arith)
+      (byte 0x17 (expect 4 (Ask (Bare 0x17 40 1))) refl refl (omega arith) (λ h k. omega arith)
+      (byte 0x18 (expect 4 (Ask (Bare 0x18 50 1))) refl refl (omega arith) (λ h k. omega arith)
+      (byte 0x19 (expect 4 (Ask (Bare 0x19 32 2))) refl refl (omega arith) (λ h k. omega arith)
       (byte 0x1B (expect 4 (Ask Temperatures)) refl refl (omega arith) (λ h k. omega arith)
       (byte 0x1C (expect 4 (Ask Cells)) refl refl (omega arith) (λ h k. omega arith)
       (byte 0x1D (expect 7 AskSettings) refl refl (omega arith) (λ h k. omega arith)
@@ -173,104 +177,44 @@ most c third seventh = expected [] c third seventh .most
 -- ---- the fields
 
 module _ (c : ℕ) (s : List ℕ) where
-  both : (t : Bool) (x y : Request) → (t ≡ true → Sound c s x) → Sound c s y → Sound c s (cond t x y)
-  both true x y p q = p refl
-  both false x y p q = q
+  -- the last of the tests that a block passes
+  block : (k at padding rl : ℕ) → k ≡ c → (eqb padding 0 && between 1 127 rl && inOneRange at rl) ≡ true
+      → Sound c s (request.Read (Registers k at rl))
+  unfolding commandIn readsInRange inRange commandOf
+  block k at padding rl e h =
+      record { named = e; in-range = and-eq-true-iff (eqb padding 0 && between 1 127 rl) (inOneRange at rl) .0 h .1 }
 
-  refused : (k : ℕ) → k ≡ c → Sound c s (against k)
-  unfolding commandIn readsInRange
-  refused k e = record { named = e; in-range = refl }
-
-  block : (k at padding rl : ℕ) → k ≡ c → Sound c s (blockOf k at padding rl)
-  unfolding commandIn readsInRange inRange blockOf commandOf
-  block k at padding rl e =
-      both (eqb padding 0 && between 1 127 rl && inOneRange at rl) _ _
-      (λ h. record { named = e; in-range = and-eq-true-iff (eqb padding 0 && between 1 127 rl) (inOneRange at rl) .0 h .1 })
-      (refused k e)
-
-  fields : (k : Command) → byteOf c k ≡ c → asksInRange s k ≡ true → Sound c s (fieldsOf k c s)
-  unfolding commandIn readsInRange inRange byteOf asksInRange fieldsOf clearOf listOf writeOf settingsOf commandOf
-  fields Clear e r = go (eqb (getD s 2 0) 1) (eqb (getD s 2 0) 2)
+  fields : (k : Command) → byteOf c k ≡ c → asksInRange s k ≡ true → fieldsOf k s .good ≡ true → Sound c s (fieldsOf k s .asks)
+  unfolding commandIn readsInRange inRange byteOf asksInRange fieldsOf commandOf
+  fields Clear e r h = go (eqb (getD s 2 0) 1)
     where
-      go : (t u : Bool) → Sound c s (cond t request.ClearEvents (cond u request.ClearStatistics (against 0x02)))
-      go true u = record { named = refl; in-range = refl }
-      go false true = record { named = refl; in-range = refl }
-      go false false = record { named = e; in-range = refl }
-  fields Block e r = block 0x03 (be16At s 2) (getD s 4 0) (getD s 5 0) e
-  fields QuickBlock e r = block 0x07 (le16At s 3) 0 (getD s 2 0) e
-  fields AskList e r =
+      go : (t : Bool) → Sound c s (cond t request.ClearEvents request.ClearStatistics)
+      go true = record { named = refl; in-range = refl }
+      go false = record { named = refl; in-range = refl }
+  fields Block e r h = block 0x03 (be16At s 2) (getD s 4 0) (getD s 5 0) e h
+  fields QuickBlock e r h = block 0x07 (le16At s 3) 0 (getD s 2 0) e h
+  fields AskList e r h =
       let pl = getD s 2 0 in
-      both (eqb pl (2 * (pl / 2)) && between 1 63 (pl / 2) && allShown s (pl / 2)) _ _
-      (λ h. record { named = e; in-range = and-eq-true-iff (eqb pl (2 * (pl / 2)) && between 1 63 (pl / 2)) (allShown s (pl / 2)) .0 h .1 })
-      (refused 0x09 e)
-  fields (Write f) e r =
-      both (wellCounted f s (countOf f s) && allSettings (pairsOf f s (countOf f s))) _ _ (λ h. record { named = e; in-range = refl }) (refused (writeCommand f) e)
-  fields (Ask q) e r = record { named = e; in-range = r }
-  fields AskSettings e r =
-      both (between 1 4 (getD s 2 0) && eqb (getD s 3 0) 0 && between 1 100 (getD s 4 0)) _ _
-      (λ h.
-      let few = and-eq-true-iff (leb 1 (getD s 4 0)) (leb (getD s 4 0) 100) .0 (and-eq-true-iff (between 1 4 (getD s 2 0) && eqb (getD s 3 0) 0) (between 1 100 (getD s 4 0)) .0 h .1) .1 in
-      record { named = e; in-range = settings-shown (getD s 4 0) (leb-true (getD s 4 0) 100 few) })
-      (refused 0x1D e)
-  fields Unknown e r = refused c refl
-
-  asked : Sound c s (askedOf c s)
-  unfolding askedOf
-  asked =
-      let k = expected s c (getD s 2 0) (getD s 6 0) in
-      both (eqb (length s) (expectedBy c s .length)) _ (against c)
-      (λ h. fields (expectedBy c s .command) (k .stands) (k .in-range))
-      (refused c refl)
+      record { named = e; in-range = and-eq-true-iff (eqb pl (2 * (pl / 2)) && between 1 63 (pl / 2)) (allShown s (pl / 2)) .0 h .1 }
+  fields (Write f) e r h = record { named = e; in-range = refl }
+  fields (Ask q) e r h = record { named = e; in-range = r }
+  fields AskSettings e r h =
+      let rl = and-eq-true-iff (between 1 4 (getD s 2 0) && eqb (getD s 3 0) 0) (between 1 100 (getD s 4 0)) .0 h .1 in
+      let few = and-eq-true-iff (leb 1 (getD s 4 0)) (leb (getD s 4 0) 100) .0 rl .1 in
+      record { named = e; in-range = settings-shown (getD s 4 0) (leb-true (getD s 4 0) 100 few) }
+  fields Unknown e r h = absurd (false≢true h)
 
 -- ---- every request
 
+pub asked-sound : (s : List ℕ) → fieldsIn s .good ≡ true → Sound (getD s 1 0) s (askedOf s)
+asked-sound s h =
+    let k = expected s (getD s 1 0) (getD s 2 0) (getD s 6 0) in
+    fields (getD s 1 0) s (expectedIn s .command) (k .stands) (k .in-range) h
+
 pub sound : (s : List ℕ) → Sound (getD s 1 0) s (requestOf s)
 unfolding requestOf commandIn readsInRange
-sound s = go (ltb (length s) 4) (eqb (getD s 0 0) 0xAA) (eqb (crcOf (take (length s - 2) s)) (le16At s (length s - 2)))
+sound s = go (first (requestRows s)) refl
   where
-    c : ℕ
-    c = getD s 1 0
-
-    go : (t u v : Bool) → Sound c s (cond t (request.Refused Foreign) (cond u (cond v (askedOf c s) (request.Refused (Damaged c))) (request.Refused Foreign)))
-    go true u v = record { named = refl; in-range = refl }
-    go false true true = asked c s
-    go false true false = record { named = refl; in-range = refl }
-    go false false v = record { named = refl; in-range = refl }
-
--- ---- a request whose CRC is right is refused by a rule or not at all
-
-unfoldable pub isRuled : Request → Bool
-isRuled (request.Refused Foreign) = false
-isRuled (request.Refused (Damaged command)) = false
-isRuled (request.Refused (Against command)) = true
-isRuled request.ClearEvents = true
-isRuled request.ClearStatistics = true
-isRuled (request.Write f n) = true
-isRuled (request.Read q) = true
-
-pub record Ruled (q : Request) : Type 0 where
-  pub ruled : isRuled q ≡ true
-
-either : (t : Bool) (x y : Request) → Ruled x → Ruled y → Ruled (cond t x y)
-either true x y p q = p
-either false x y p q = q
-
-fields-ruled : (c : ℕ) (s : List ℕ) (k : Command) → Ruled (fieldsOf k c s)
-unfolding isRuled fieldsOf clearOf blockOf listOf writeOf settingsOf
-fields-ruled c s Clear =
-    either (eqb (getD s 2 0) 1) request.ClearEvents _ (record { ruled = refl })
-    (either (eqb (getD s 2 0) 2) request.ClearStatistics (against 0x02) (record { ruled = refl }) (record { ruled = refl }))
-fields-ruled c s Block =
-    either (eqb (getD s 4 0) 0 && between 1 127 (getD s 5 0) && inOneRange (be16At s 2) (getD s 5 0)) _ _ (record { ruled = refl }) (record { ruled = refl })
-fields-ruled c s QuickBlock = either (between 1 127 (getD s 2 0) && inOneRange (le16At s 3) (getD s 2 0)) _ _ (record { ruled = refl }) (record { ruled = refl })
-fields-ruled c s AskList =
-    let pl = getD s 2 0 in
-    either (eqb pl (2 * (pl / 2)) && between 1 63 (pl / 2) && allShown s (pl / 2)) _ _ (record { ruled = refl }) (record { ruled = refl })
-fields-ruled c s (Write f) = either (wellCounted f s (countOf f s) && allSettings (pairsOf f s (countOf f s))) _ _ (record { ruled = refl }) (record { ruled = refl })
-fields-ruled c s (Ask q) = record { ruled = refl }
-fields-ruled c s AskSettings = either (between 1 4 (getD s 2 0) && eqb (getD s 3 0) 0 && between 1 100 (getD s 4 0)) _ _ (record { ruled = refl }) (record { ruled = refl })
-fields-ruled c s Unknown = record { ruled = refl }
-
-pub asked-ruled : (c : ℕ) (s : List ℕ) → Ruled (askedOf c s)
-unfolding isRuled askedOf
-asked-ruled c s = either (eqb (length s) (expectedBy c s .length)) _ (against c) (fields-ruled c s (expectedBy c s .command)) (record { ruled = refl })
+    go : (o : Outcome) → first (requestRows s) ≡ o → Sound (getD s 1 0) s (requestBy o (askedOf s))
+    go Done e = asked-sound s (none-applies s e .kept)
+    go (Refused refusal) e = record { named = refl; in-range = refl }

@@ -1,2 +1,1 @@
 pub mod Requests
-mod Facts

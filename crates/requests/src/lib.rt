@@ -1,36 +1,24 @@
 // What a request asks: read from its bytes alone, with no length trusted.
 ghost use mathlib.Core.Path.{_≡_};
-ghost use Prim.Native.Nat.{_+_, _-_, _≤_};
-ghost use lib.ListN.{getD};
-ghost use Rattle.requests.specs.Requests.{be16At, le16At, expect, expectedOf, expectedBy, lengthOf, inOneRange, clearOf, blockOf, addressAt, allShown, listOf, pairAt, pairsOf, countOf, wellCounted, allSettings, writeCommand, writeOf, kindOf, settingsOf, fieldsOf, askedOf, requestOf, refusalNumber, commandOf, hasLength, highFirst, marks, wordCount, draftedOf, writtenTo};
-use settings::Draft;
+ghost use Prim.Native.Nat.{_-_, _≤_};
+ghost use Rattle.requests.specs.Requests.{expect, expectedOf, expectedIn, lengthOf, inOneRange, clearedBy, clearFields, blockFields, addressAt, allShown, listFields, writeFields, kindOf, settingsFields, fieldsOf, isUnknown, foreign, damaged, requestOf, commandOf, hasLength, highFirst, marks, wordCount};
+use numbers::byte_at;
+use numbers::high_first_16;
+use numbers::low_first_16;
+use refusals::Refusal;
 use settings::Kind;
-use settings::Settings;
-use settings::Written;
+use writes::Form;
 
 // A request that changes nothing but 0x11's mark. A reply to it is a head and words of sixteen bits.
 pub enum Query {
     Registers { command: u8, at: u16, count: u8 }, // 0x03 and 0x07
     Listed { count: u8 }, // 0x09; its addresses are the request's own bytes
-    Live { command: u8, at: u16, count: u8 },
+    Bare { command: u8, at: u16, count: u8 }, // 0x14 to 0x19: no length byte
     NewEvents,
     AllEvents,
     Temperatures,
     Cells,
     SettingsOf { kind: Kind, count: u8 },
-}
-
-// How a write has its registers: 0x10's block, high byte first; 0x0B's block; 0x0D's list of pairs.
-pub enum Form {
-    Modbus,
-    Block,
-    List,
-}
-
-// A register that is written, and its value.
-pub struct Pair {
-    pub at: u32,
-    pub value: u16,
 }
 
 // What a command byte stands for; the fields of some are still to be read.
@@ -51,11 +39,10 @@ pub struct Expected {
     pub command: Command,
 }
 
-// Why a request is refused: it is none of ours, its CRC is wrong, or it is against a rule; the last two with its command.
-pub enum Refusal {
-    Foreign,
-    Damaged(u8),
-    Against(u8),
+// What a request asks by its fields, and whether each keeps its rule.
+pub struct Fields {
+    pub good: bool,
+    pub asks: Request,
 }
 
 // What a whole request comes to: a refusal, or what it asks.
@@ -67,15 +54,13 @@ pub enum Request {
     Read(Query),
 }
 
-impl Refusal {
-    // Document 01's number.
-    pub fn number(self) -> u8
-        ensures { λ r. ⌜ r ≡ refusalNumber self ⌝ }
+impl Command {
+    fn is_unknown(self) -> bool
+        ensures { λ r. ⌜ r ≡ isUnknown self ⌝ }
     {
         match self {
-            Refusal::Foreign => 2,
-            Refusal::Damaged(_) => 3,
-            Refusal::Against(_) => 4,
+            Command::Unknown => true,
+            _ => false,
         }
     }
 }
@@ -92,7 +77,7 @@ impl Query {
                 count: _,
             } => command,
             Query::Listed { count: _ } => 0x09,
-            Query::Live {
+            Query::Bare {
                 command,
                 at: _,
                 count: _,
@@ -110,7 +95,7 @@ impl Query {
         ensures { λ r. ⌜ r ≡ hasLength self ⌝ }
     {
         match self {
-            Query::Live {
+            Query::Bare {
                 command: _,
                 at: _,
                 count: _,
@@ -154,7 +139,7 @@ impl Query {
                 count,
             } => count as u16,
             Query::Listed { count } => 2 * (count as u16),
-            Query::Live {
+            Query::Bare {
                 command: _,
                 at: _,
                 count,
@@ -168,123 +153,70 @@ impl Query {
     }
 }
 
-impl Form {
-    // The command byte of each.
-    pub fn command(self) -> u8
-        ensures { λ r. ⌜ r ≡ writeCommand self ⌝ }
-    {
-        match self {
-            Form::Modbus => 0x10,
-            Form::Block => 0x0B,
-            Form::List => 0x0D,
-        }
-    }
-}
-
 // A whole request, of any bytes.
 pub fn parsed(bytes: &[u8]) -> Request
     ensures { λ r. ⌜ r ≡ requestOf (now (bytes .entry)) ⌝ }
 {
-    let n = bytes.len();
-    if n < 4 {
+    if is_foreign(bytes) {
         return Request::Refused(Refusal::Foreign);
     }
-    if byte_at(bytes, 0) != 0xAA {
-        return Request::Refused(Refusal::Foreign);
+    if is_damaged(bytes) {
+        return Request::Refused(Refusal::Damaged);
     }
-    let command = byte_at(bytes, 1);
-    let end = n - 2;
-    let crc = crc::crc(&bytes[..end]);
-    let told = low_first_at(bytes, end);
-    if crc == told {
-        asked(command, bytes)
-    } else {
-        Request::Refused(Refusal::Damaged(command))
+    let expected = expected_in(bytes);
+    let command = expected.command;
+    if command.is_unknown() {
+        return Request::Refused(Refusal::UnknownCommand);
     }
+    if bytes.len() != expected.length {
+        return Request::Refused(Refusal::WrongLength);
+    }
+    let read = fields_of(command, bytes);
+    if read.good {
+        return read.asks;
+    }
+    Request::Refused(Refusal::WrongField)
+}
+
+// Under 4 bytes, or the first is not 0xAA.
+fn is_foreign(bytes: &[u8]) -> bool
+    ensures { λ r. ⌜ r ≡ foreign (now (bytes .entry)) ⌝ }
+{
+    (bytes.len() < 4) | (byte_at(bytes, 0) != 0xAA)
+}
+
+// The last two bytes are not the CRC of the rest.
+fn is_damaged(bytes: &[u8]) -> bool
+    ensures { λ r. ⌜ r ≡ damaged (now (bytes .entry)) ⌝ }
+{
+    let end = two_less(bytes.len());
+    crc::crc(&bytes[..end]) != low_first_16(bytes, end)
+}
+
+fn two_less(n: usize) -> usize
+    ensures { λ r. ⌜ r ≡ n - 2 ⌝ }
+{
+    if n < 2 { 0 } else { n - 2 }
 }
 
 // The length of the request that these bytes begin; it is more than there is until the byte that decides it has come.
 pub fn length_of(bytes: &[u8]) -> usize
     ensures { λ r. ⌜ (r ≡ lengthOf (now (bytes .entry))) × (r ≤ 264) ⌝ }
 {
-    expected_by(byte_at(bytes, 1), bytes).length
+    expected_in(bytes).length
 }
 
 // The i-th address of a list.
 pub fn address_at(bytes: &[u8], i: u16) -> u16
     ensures { λ r. ⌜ r ≡ addressAt (now (bytes .entry)) i ⌝ }
 {
-    low_first_at(bytes, 3 + 2 * (i as usize))
+    low_first_16(bytes, 3 + 2 * (i as usize))
 }
 
-// The address of 0x10, which its reply repeats.
-pub fn write_address(bytes: &[u8]) -> u16
-    ensures { λ r. ⌜ r ≡ be16At (now (bytes .entry)) 2 ⌝ }
+fn expected_in(bytes: &[u8]) -> Expected
+    ensures { λ r. ⌜ (r ≡ expectedIn (now (bytes .entry))) × (r .length ≤ 264) ⌝ }
 {
-    high_first_at(bytes, 2)
-}
-
-// A write to settings that stand: judged whole, and what then stands.
-pub fn written(settings: Settings, bytes: &[u8], form: Form, count: u8) -> Written
-    ensures { λ r. ⌜ r ≡ writtenTo settings (pairsOf form (now (bytes .entry)) count) ⌝ }
-{
-    drafted(settings.draft(), bytes, form, count).finish()
-}
-
-// The registers, put into a draft one by one.
-fn drafted(draft: Draft, bytes: &[u8], form: Form, count: u8) -> Draft
-    ensures { λ r. ⌜ r ≡ draftedOf draft (pairsOf form (now (bytes .entry)) count) ⌝ }
-{
-    let mut all = draft;
-    let mut i: u16 = 0;
-    while i < (count as u16) {
-        let pair = pair_at(form, bytes, i);
-        all = all.put(pair.at, pair.value);
-        i += 1;
-    }
-    all
-}
-
-// The i-th register of a write.
-fn pair_at(form: Form, bytes: &[u8], i: u16) -> Pair
-    ensures { λ r. ⌜ r ≡ pairAt form (now (bytes .entry)) i ⌝ }
-{
-    let n = i as usize;
-    match form {
-        Form::Modbus => pair_of(high_first_at(bytes, 2), i, high_first_at(bytes, 7 + 2 * n)),
-        Form::Block => pair_of(low_first_at(bytes, 3), i, low_first_at(bytes, 5 + 2 * n)),
-        Form::List => pair_of(
-            low_first_at(bytes, 3 + 4 * n),
-            0,
-            low_first_at(bytes, 5 + 4 * n),
-        ),
-    }
-}
-
-fn pair_of(first: u16, i: u16, value: u16) -> Pair
-    ensures { λ r. ⌜ r ≡ record { at = first + i; value = value } ⌝ }
-{
-    Pair {
-        at: (first as u32) + (i as u32),
-        value,
-    }
-}
-
-fn asked(command: u8, bytes: &[u8]) -> Request
-    ensures { λ r. ⌜ r ≡ askedOf command (now (bytes .entry)) ⌝ }
-{
-    let expected = expected_by(command, bytes);
-    if bytes.len() != expected.length {
-        return Request::Refused(Refusal::Against(command));
-    }
-    let kind = expected.command;
-    fields(kind, command, bytes)
-}
-
-fn expected_by(command: u8, bytes: &[u8]) -> Expected
-    ensures { λ r. ⌜ (r ≡ expectedBy command (now (bytes .entry))) × (r .length ≤ 264) ⌝ }
-{
-    expected_of(command, byte_at(bytes, 2), byte_at(bytes, 6))
+    expected_of(byte_at(bytes, 1), byte_at(bytes, 2), byte_at(bytes, 6))
 }
 
 // The command byte decides the length and the meaning; PL is the third byte, or the seventh.
@@ -301,12 +233,12 @@ fn expected_of(command: u8, third: u8, seventh: u8) -> Expected
         0x10 => expect(9 + (seventh as usize), Command::Write(Form::Modbus)),
         0x11 => expect(4, Command::Ask(Query::NewEvents)),
         0x12 => expect(4, Command::Ask(Query::AllEvents)),
-        0x14 => expect(4, live(0x14, 36, 2)),
-        0x15 => expect(4, live(0x15, 38, 2)),
-        0x16 => expect(4, live(0x16, 41, 1)),
-        0x17 => expect(4, live(0x17, 40, 1)),
-        0x18 => expect(4, live(0x18, 50, 1)),
-        0x19 => expect(4, live(0x19, 32, 2)),
+        0x14 => expect(4, bare(0x14, 36, 2)),
+        0x15 => expect(4, bare(0x15, 38, 2)),
+        0x16 => expect(4, bare(0x16, 41, 1)),
+        0x17 => expect(4, bare(0x17, 40, 1)),
+        0x18 => expect(4, bare(0x18, 50, 1)),
+        0x19 => expect(4, bare(0x19, 32, 2)),
         0x1B => expect(4, Command::Ask(Query::Temperatures)),
         0x1C => expect(4, Command::Ask(Query::Cells)),
         0x1D => expect(7, Command::AskSettings),
@@ -314,66 +246,73 @@ fn expected_of(command: u8, third: u8, seventh: u8) -> Expected
     }
 }
 
-fn fields(command: Command, code: u8, bytes: &[u8]) -> Request
-    ensures { λ r. ⌜ r ≡ fieldsOf command code (now (bytes .entry)) ⌝ }
+fn fields_of(command: Command, bytes: &[u8]) -> Fields
+    ensures { λ r. ⌜ r ≡ fieldsOf command (now (bytes .entry)) ⌝ }
 {
     match command {
         Command::Clear => clear(byte_at(bytes, 2)),
         Command::Block => block(
             0x03,
-            high_first_at(bytes, 2),
+            high_first_16(bytes, 2),
             byte_at(bytes, 4),
             byte_at(bytes, 5),
         ),
-        Command::QuickBlock => block(0x07, low_first_at(bytes, 3), 0, byte_at(bytes, 2)),
+        Command::QuickBlock => block(0x07, low_first_16(bytes, 3), 0, byte_at(bytes, 2)),
         Command::AskList => list(byte_at(bytes, 2), bytes),
-        Command::Write(form) => write(form, bytes, count_of(form, bytes)),
-        Command::Ask(query) => Request::Read(query),
+        Command::Write(form) => write(form, bytes, writes::count_of(form, bytes)),
+        Command::Ask(query) => Fields {
+            good: true,
+            asks: Request::Read(query),
+        },
         Command::AskSettings => settings_of(
             byte_at(bytes, 2),
             byte_at(bytes, 3),
             byte_at(bytes, 4),
         ),
-        Command::Unknown => Request::Refused(Refusal::Against(code)),
+        Command::Unknown => Fields {
+            good: false,
+            asks: Request::Refused(Refusal::UnknownCommand),
+        },
     }
 }
 
-fn clear(option: u8) -> Request
-    ensures { λ r. ⌜ r ≡ clearOf option ⌝ }
+fn clear(option: u8) -> Fields
+    ensures { λ r. ⌜ r ≡ clearFields option ⌝ }
+{
+    Fields {
+        good: (1 <= option) & (option <= 2),
+        asks: cleared(option),
+    }
+}
+
+fn cleared(option: u8) -> Request
+    ensures { λ r. ⌜ r ≡ clearedBy option ⌝ }
 {
     if option == 1 {
         return Request::ClearEvents;
     }
-    if option == 2 {
-        Request::ClearStatistics
-    } else {
-        Request::Refused(Refusal::Against(0x02))
-    }
+    Request::ClearStatistics
 }
 
-fn block(command: u8, at: u16, padding: u8, rl: u8) -> Request
-    ensures { λ r. ⌜ r ≡ blockOf command at padding rl ⌝ }
+fn block(command: u8, at: u16, padding: u8, rl: u8) -> Fields
+    ensures { λ r. ⌜ r ≡ blockFields command at padding rl ⌝ }
 {
     let good = (padding == 0) & ((1 <= rl) & (rl <= 127)) & is_in_one_range(at, rl);
-    if good {
-        return Request::Read(Query::Registers {
-            command,
-            at,
-            count: rl,
-        });
-    }
-    Request::Refused(Refusal::Against(command))
+    let asks = Request::Read(Query::Registers {
+        command,
+        at,
+        count: rl,
+    });
+    Fields { good, asks }
 }
 
-fn list(pl: u8, bytes: &[u8]) -> Request
-    ensures { λ r. ⌜ r ≡ listOf pl (now (bytes .entry)) ⌝ }
+fn list(pl: u8, bytes: &[u8]) -> Fields
+    ensures { λ r. ⌜ r ≡ listFields pl (now (bytes .entry)) ⌝ }
 {
     let count = pl / 2;
     let good = (pl == 2 * count) & ((1 <= count) & (count <= 63)) & are_all_shown(bytes, count);
-    if good {
-        return Request::Read(Query::Listed { count });
-    }
-    Request::Refused(Refusal::Against(0x09))
+    let asks = Request::Read(Query::Listed { count });
+    Fields { good, asks }
 }
 
 // Each of the first addresses of a list lies in one of the ranges.
@@ -397,73 +336,21 @@ fn is_in_one_range(at: u16, rl: u8) -> bool
     (end <= 56) | ((100 <= first) & (end <= 118)) | ((300 <= first) & (end <= 400))
 }
 
-fn write(form: Form, bytes: &[u8], count: u8) -> Request
-    ensures { λ r. ⌜ r ≡ writeOf form (now (bytes .entry)) count ⌝ }
+fn write(form: Form, bytes: &[u8], count: u8) -> Fields
+    ensures { λ r. ⌜ r ≡ writeFields form (now (bytes .entry)) count ⌝ }
 {
-    let good = is_counted(form, bytes, count) & are_all_settings(form, bytes, count);
-    if good {
-        return Request::Write { form, count };
-    }
-    Request::Refused(Refusal::Against(form.command()))
+    let good = writes::keeps_rules(form, bytes, count);
+    let asks = Request::Write { form, count };
+    Fields { good, asks }
 }
 
-// How many registers a write has by its RL or PL.
-fn count_of(form: Form, bytes: &[u8]) -> u8
-    ensures { λ r. ⌜ r ≡ countOf form (now (bytes .entry)) ⌝ }
-{
-    match form {
-        Form::Modbus => byte_at(bytes, 5),
-        Form::Block => one_less(byte_at(bytes, 2) / 2),
-        Form::List => byte_at(bytes, 2) / 4,
-    }
-}
-
-fn one_less(n: u8) -> u8
-    ensures { λ r. ⌜ r ≡ n - 1 ⌝ }
-{
-    if n == 0 { 0 } else { n - 1 }
-}
-
-// As many as it may have, and PL says so.
-fn is_counted(form: Form, bytes: &[u8], count: u8) -> bool
-    ensures { λ r. ⌜ r ≡ wellCounted form (now (bytes .entry)) count ⌝ }
-{
-    let n = count as u16;
-    let pl = byte_at(bytes, 2) as u16;
-    match form {
-        Form::Modbus => (byte_at(bytes, 4) == 0)
-            & ((1 <= count) & (count <= 100))
-            & ((byte_at(bytes, 6) as u16) == 2 * n),
-        Form::Block => ((1 <= count) & (count <= 100)) & (pl == 2 + 2 * n),
-        Form::List => ((1 <= count) & (count <= 50)) & (pl == 4 * n),
-    }
-}
-
-// Each of the first registers of a write lies in 300 to 399.
-fn are_all_settings(form: Form, bytes: &[u8], count: u8) -> bool
-    ensures { λ r. ⌜ r ≡ allSettings (pairsOf form (now (bytes .entry)) count) ⌝ }
-{
-    let mut good = true;
-    let mut i: u16 = 0;
-    while i < (count as u16) {
-        let at = pair_at(form, bytes, i).at;
-        good = good & ((300 <= at) & (at <= 399));
-        i += 1;
-    }
-    good
-}
-
-fn settings_of(option: u8, padding: u8, rl: u8) -> Request
-    ensures { λ r. ⌜ r ≡ settingsOf option padding rl ⌝ }
+fn settings_of(option: u8, padding: u8, rl: u8) -> Fields
+    ensures { λ r. ⌜ r ≡ settingsFields option padding rl ⌝ }
 {
     let good = ((1 <= option) & (option <= 4)) & (padding == 0) & ((1 <= rl) & (rl <= 100));
-    if good {
-        return Request::Read(Query::SettingsOf {
-            kind: kind_of(option),
-            count: rl,
-        });
-    }
-    Request::Refused(Refusal::Against(0x1D))
+    let kind = kind_of(option);
+    let asks = Request::Read(Query::SettingsOf { kind, count: rl });
+    Fields { good, asks }
 }
 
 fn kind_of(option: u8) -> Kind
@@ -483,29 +370,8 @@ fn expect(length: usize, command: Command) -> Expected
     Expected { length, command }
 }
 
-fn live(command: u8, at: u16, count: u8) -> Command
-    ensures { λ r. ⌜ r ≡ Command.Ask (Query.Live command at count) ⌝ }
+fn bare(command: u8, at: u16, count: u8) -> Command
+    ensures { λ r. ⌜ r ≡ Command.Ask (Query.Bare command at count) ⌝ }
 {
-    Command::Ask(Query::Live { command, at, count })
-}
-
-// A byte of a slice; 0 past its end.
-fn byte_at(bytes: &[u8], i: usize) -> u8
-    ensures { λ r. ⌜ r ≡ getD (now (bytes .entry)) i 0 ⌝ }
-{
-    if i < bytes.len() { bytes[i] } else { 0 }
-}
-
-fn high_first_at(bytes: &[u8], i: usize) -> u16
-    requires { ⌜ i + 2 ≤ 18446744073709551615 ⌝ }
-    ensures { λ r. ⌜ r ≡ be16At (now (bytes .entry)) i ⌝ }
-{
-    256 * (byte_at(bytes, i) as u16) + (byte_at(bytes, i + 1) as u16)
-}
-
-fn low_first_at(bytes: &[u8], i: usize) -> u16
-    requires { ⌜ i + 2 ≤ 18446744073709551615 ⌝ }
-    ensures { λ r. ⌜ r ≡ le16At (now (bytes .entry)) i ⌝ }
-{
-    (byte_at(bytes, i) as u16) + 256 * (byte_at(bytes, i + 1) as u16)
+    Command::Ask(Query::Bare { command, at, count })
 }

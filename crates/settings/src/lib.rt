@@ -1,8 +1,9 @@
 // The twelve settings: their values by register, their ranges, and a write that is taken whole or not at all.
 ghost use mathlib.Core.Path.{_≡_};
-ghost use Rattle.laws.specs.History.{any};
-ghost use Rattle.settings.specs.Settings.{factory, ofKind, registerOf, withOf, listed, noneBelow, inRange, ordered};
-ghost use Rattle.settings.specs.Settings.{judgedOf, numberOf, draftOf, putOf, verdictOf, standingOf, writtenOf};
+ghost use Rattle.settings.specs.Settings.{factory, ofKind, registerOf, valuesOf, settingsOf, meantBy, fits, ordered};
+ghost use Rattle.settings.specs.Settings.{judgedOf, draftOf, putOf, standingOf, writtenOf};
+use refusals::Outcome;
+use refusals::Refusal;
 
 // The registers of document 01's list, by their numbers.
 pub struct Settings {
@@ -28,24 +29,15 @@ pub enum Kind {
     Current,
 }
 
-// What a write is judged to be.
-pub enum Verdict {
-    Taken,
-    OutOfRange,
-    OutOfOrder,
-}
-
-// A write under way: what stands, what would stand, and for each register from 300 on whether it is unlisted and would
-// take anything but 0.
+// A write under way: what stands, and the values of registers 300 to 399 as they would stand.
 pub struct Draft {
     pub standing: Settings,
-    pub drafted: Settings,
-    pub strays: [bool; 100],
+    pub values: [u16; 100],
 }
 
-// What a write was judged to be, and the settings that stand after it.
+// What a write came to, and the settings that stand after it.
 pub struct Written {
-    pub verdict: Verdict,
+    pub outcome: Outcome,
     pub settings: Settings,
 }
 
@@ -134,18 +126,11 @@ impl Settings {
         }
     }
 
-    // A whole set of settings is judged: its ranges, then the ordering rule.
-    pub fn judged(self) -> Verdict
-        ensures { λ r. ⌜ r ≡ judgedOf self ⌝ }
+    // A whole set of settings is judged as a write of it would be.
+    pub fn judged(self) -> Outcome
+        ensures { λ r. ⌜ r ≡ judgedOf (valuesOf self) ⌝ }
     {
-        if !self.in_range() {
-            return Verdict::OutOfRange;
-        }
-        if self.ordered() {
-            Verdict::Taken
-        } else {
-            Verdict::OutOfOrder
-        }
+        judged(self.values())
     }
 
     // A write begins.
@@ -154,54 +139,41 @@ impl Settings {
     {
         Draft {
             standing: self,
-            drafted: self,
-            strays: [false; 100],
+            values: self.values(),
         }
     }
 
-    fn with(mut self, at: u32, value: u16) -> Settings
-        ensures { λ r. ⌜ r ≡ withOf self at value ⌝ }
+    // The values of registers 300 to 399.
+    fn values(self) -> [u16; 100]
+        ensures { λ r. ⌜ r ≡ valuesOf self ⌝ }
     {
-        match at {
-            301 => self.r301 = value,
-            303 => self.r303 = value,
-            308 => self.r308 = value,
-            315 => self.r315 = value,
-            316 => self.r316 = value,
-            317 => self.r317 = value,
-            318 => self.r318 = value,
-            319 => self.r319 = value,
-            320 => self.r320 = signed::from_bits(value),
-            332 => self.r332 = value,
-            334 => self.r334 = value,
-            335 => self.r335 = value,
-            _ => {}
+        let mut values = [0; 100];
+        let mut i: u16 = 0;
+        while i < 100 {
+            values[i as usize] = self.register(300 + i);
+            i += 1;
         }
-        self
+        values
     }
 
-    fn in_range(self) -> bool
-        ensures { λ r. ⌜ r ≡ inRange self ⌝ }
+    // The settings that those values of registers 300 to 399 are.
+    fn of(values: [u16; 100]) -> Settings
+        ensures { λ r. ⌜ r ≡ settingsOf values ⌝ }
     {
-        Settings::none_below(Settings::MINIMUM, self)
-            & Settings::none_below(self, Settings::MAXIMUM)
-    }
-
-    fn none_below(low: Settings, s: Settings) -> bool
-        ensures { λ r. ⌜ r ≡ noneBelow low s ⌝ }
-    {
-        (low.r301 <= s.r301)
-            & (low.r303 <= s.r303)
-            & (low.r308 <= s.r308)
-            & (low.r315 <= s.r315)
-            & (low.r316 <= s.r316)
-            & (low.r317 <= s.r317)
-            & (low.r318 <= s.r318)
-            & (low.r319 <= s.r319)
-            & (low.r320 <= s.r320)
-            & (low.r332 <= s.r332)
-            & (low.r334 <= s.r334)
-            & (low.r335 <= s.r335)
+        Settings {
+            r301: values[1],
+            r303: values[3],
+            r308: values[8],
+            r315: values[15],
+            r316: values[16],
+            r317: values[17],
+            r318: values[18],
+            r319: values[19],
+            r320: signed::from_bits(values[20]),
+            r332: values[32],
+            r334: values[34],
+            r335: values[35],
+        }
     }
 
     fn ordered(self) -> bool
@@ -217,87 +189,71 @@ impl Draft {
         ensures { λ r. ⌜ r ≡ putOf self at value ⌝ }
     {
         let standing = self.standing;
-        let drafted = self.drafted.with(at, value);
-        let mut strays = self.strays;
+        let mut values = self.values;
         if (300 <= at) & (at <= 399) {
-            strays[(at - 300) as usize] = !is_listed(at) & (value != 0);
+            values[(at - 300) as usize] = value;
         }
-        Draft {
-            standing,
-            drafted,
-            strays,
-        }
+        Draft { standing, values }
     }
 
     // The write ends: it is taken whole or not at all.
     pub fn finish(self) -> Written
         ensures { λ r. ⌜ r ≡ writtenOf self ⌝ }
     {
-        let verdict = self.verdict();
-        let settings = self.stands(verdict);
-        Written { verdict, settings }
+        let values = self.values;
+        let outcome = judged(values);
+        let settings = self.stands(outcome);
+        Written { outcome, settings }
     }
 
-    fn verdict(self) -> Verdict
-        ensures { λ r. ⌜ r ≡ verdictOf self ⌝ }
+    fn stands(self, outcome: Outcome) -> Settings
+        ensures { λ r. ⌜ r ≡ standingOf self outcome ⌝ }
     {
-        let strays = self.strays;
-        if has_stray(strays) {
-            return Verdict::OutOfRange;
-        }
-        self.drafted.judged()
-    }
-
-    fn stands(self, verdict: Verdict) -> Settings
-        ensures { λ r. ⌜ r ≡ standingOf self verdict ⌝ }
-    {
-        match verdict {
-            Verdict::Taken => self.drafted,
-            Verdict::OutOfRange => self.standing,
-            Verdict::OutOfOrder => self.standing,
+        let standing = self.standing;
+        let values = self.values;
+        let drafted = Settings::of(values);
+        match outcome {
+            Outcome::Done => drafted,
+            Outcome::Refused(_) => standing,
         }
     }
 }
 
-impl Verdict {
-    // Document 01's number.
-    pub fn number(self) -> u8
-        ensures { λ r. ⌜ r ≡ numberOf self ⌝ }
-    {
-        match self {
-            Verdict::Taken => 0,
-            Verdict::OutOfRange => 4,
-            Verdict::OutOfOrder => 4,
-        }
-    }
-}
-
-fn has_stray(strays: [bool; 100]) -> bool
-    ensures { λ r. ⌜ r ≡ any (λ stray. stray) strays ⌝ }
+// The one judgement: the lowest register out of its range, then the ordering rule.
+fn judged(values: [u16; 100]) -> Outcome
+    ensures { λ r. ⌜ r ≡ judgedOf values ⌝ }
 {
-    let mut i = 0;
+    let mut i: u16 = 0;
     while i < 100 {
-        if strays[i] {
-            return true;
+        if !is_in_range(300 + i, values[i as usize]) {
+            return Outcome::Refused(Refusal::OutOfRange(300 + i));
         }
         i += 1;
     }
-    false
+    if Settings::of(values).ordered() {
+        Outcome::Done
+    } else {
+        Outcome::Refused(Refusal::OutOfOrder)
+    }
 }
 
-fn is_listed(at: u32) -> bool
-    ensures { λ r. ⌜ r ≡ listed at ⌝ }
+// Of an unlisted register, least and greatest are 0.
+fn is_in_range(at: u16, value: u16) -> bool
+    ensures { λ r. ⌜ r ≡ fits at value ⌝ }
 {
-    (at == 301)
-        | (at == 303)
-        | (at == 308)
-        | (at == 315)
-        | (at == 316)
-        | (at == 317)
-        | (at == 318)
-        | (at == 319)
-        | (at == 320)
-        | (at == 332)
-        | (at == 334)
-        | (at == 335)
+    let least = meant_by(at, Settings::MINIMUM.register(at));
+    let greatest = meant_by(at, Settings::MAXIMUM.register(at));
+    let number = meant_by(at, value);
+    (least <= number) & (number <= greatest)
+}
+
+// The number that a register's sixteen bits mean: 320 alone is signed.
+fn meant_by(at: u16, bits: u16) -> i32
+    ensures { λ r. ⌜ r ≡ meantBy at bits ⌝ }
+{
+    if at == 320 {
+        signed::wide(signed::from_bits(bits))
+    } else {
+        bits as i32
+    }
 }

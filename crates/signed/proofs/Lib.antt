@@ -1,3 +1,4 @@
 pub mod Read
 pub mod Lifted
 pub mod Compared
+mod Facts

@@ -1,2 +1,1 @@
 pub mod Statistics
-mod Facts

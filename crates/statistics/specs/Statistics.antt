@@ -4,7 +4,7 @@ use mathlib.Core.Bool.{Bool, false, _&&_, _||_, not, cond}
 use Prim.Native.Nat.{ℕ, _+_, _*_, _-_, _/_, _%_, min, max}
 use lib.Dec.{eqb}
 use lib.IntN.{ℤ, pos}
-use Rattle.pairs.specs.Pairs.{lowHalf, highHalf}
+use Rattle.numbers.specs.Numbers.{lowHalf, highHalf}
 use Rattle.cells.specs.declared.Extremes.{Extremes}
 use Rattle.signed.specs.Signed.{above, below, lowerOf, higherOf, degreesOf}
 use Rattle.readings.specs.declared.Readings.{Readings}

@@ -111,8 +111,8 @@ impl Statistics {
         ensures { λ r. ⌜ r ≡ registerOf self «per_km» at ⌝ }
     {
         match at {
-            100 => pairs::low(self.distance(per_km)),
-            101 => pairs::high(self.distance(per_km)),
+            100 => numbers::low(self.distance(per_km)),
+            101 => numbers::high(self.distance(per_km)),
             102 => self.drawn,
             103 => self.fed,
             104 => self.difference,
@@ -123,8 +123,8 @@ impl Statistics {
             109 => self.counts.ot,
             111 => self.counts.charging,
             113 => self.temperatures.shown(),
-            116 => pairs::low(self.cleared),
-            117 => pairs::high(self.cleared),
+            116 => numbers::low(self.cleared),
+            117 => numbers::high(self.cleared),
             _ => 0,
         }
     }

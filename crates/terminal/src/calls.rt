@@ -1,5 +1,5 @@
 // A line into the call that it asks for.
-use output::least;
+use numbers::lesser;
 use readings::Readings;
 use text::Series;
 use text::after_word;
@@ -205,7 +205,7 @@ fn crc_call(line: &[u8], from: usize, request: &mut [u8]) -> Call {
     let Series::Of(count) = given else {
         return Call::Wrong;
     };
-    let length = least(count, request.len());
+    let length = lesser(count, request.len());
     Call::Crc(crc::crc(&request[0..length]))
 }
 

@@ -1,6 +1,6 @@
 // The bench console: calls of the board as lines on standard input, an answer line for each on standard output.
-mod answers;
 mod calls;
+mod lines;
 mod turns;
 
 ghost use Prim.Native.Nat.{_≤_};
@@ -11,7 +11,7 @@ use crate::calls::MOST_CELLS;
 use crate::calls::call_of;
 use crate::turns::answered;
 use board::Board;
-use output::least;
+use numbers::lesser;
 use output::with_room;
 use output::written;
 use text::LF;
@@ -47,7 +47,7 @@ fn answer_all(prompts: bool, block: &mut [u8], line: &mut [u8], out: &mut [u8]) 
     let mut turns = u64::MAX;
     let mut count = block_read(prompts, block);
     while 0 < turns && 0 < count {
-        let part = least(count, block.len());
+        let part = lesser(count, block.len());
         board = block_answered(board, &block[0..part], line, held, out);
         held = carried(line, held, &block[0..part]);
         count = block_read(prompts, block);
@@ -127,7 +127,7 @@ fn piece_call(
         return whole_call(piece, request, voltages);
     }
     let all = appended(line, held, piece);
-    let length = least(all, line.len());
+    let length = lesser(all, line.len());
     whole_call(&line[0..length], request, voltages)
 }
 

@@ -1,18 +1,19 @@
 // A call that is made on the board, and its answer, put behind those that wait.
-use crate::answers::State;
-use crate::answers::put_crc;
-use crate::answers::put_heard;
-use crate::answers::put_mark;
-use crate::answers::put_replied;
-use crate::answers::put_saved;
-use crate::answers::put_shown;
-use crate::answers::put_told;
 use crate::calls::Call;
 use crate::calls::MOST_ROOM;
+use crate::lines::State;
+use crate::lines::put_crc;
+use crate::lines::put_heard;
+use crate::lines::put_mark;
+use crate::lines::put_replied;
+use crate::lines::put_saved;
+use crate::lines::put_shown;
+use crate::lines::put_told;
 use board::Answer;
 use board::Board;
 use board::Heard;
-use output::least;
+use numbers::lesser;
+use refusals::Outcome;
 
 // What a reply buffer or an area holds before a call, so that a byte that the call leaves alone shows.
 const FILLING: u8 = 0x5A;
@@ -37,23 +38,23 @@ pub(crate) fn answered(
         Call::Wrong => after(board, put_mark(out, said, b'?')),
         Call::Start { cells, per_km } => told(Board::start(cells, per_km), out, said),
         Call::Tick { readings, count } => {
-            let given = least(count, voltages.len());
+            let given = lesser(count, voltages.len());
             told(board.tick(&voltages[0..given], readings), out, said)
         }
         Call::Frame { room, count } => {
-            let length = least(count, request.len());
+            let length = lesser(count, request.len());
             let mut reply = [FILLING; MOST_ROOM];
-            let lent = least(room, MOST_ROOM);
+            let lent = lesser(room, MOST_ROOM);
             framed(board, &request[0..length], &mut reply[0..lent], out, said)
         }
         Call::Offer { count } => {
-            let length = least(count, request.len());
+            let length = lesser(count, request.len());
             heard(board.offer(&request[0..length]), out, said)
         }
         Call::Fetch { room } => fetched(board, room, out, said),
         Call::Save { length } => saved(board, length, out, said),
         Call::Load { count } => {
-            let length = least(count, request.len());
+            let length = lesser(count, request.len());
             told(board.load(&request[0..length]), out, said)
         }
         Call::Handover => told(board.handover(), out, said),
@@ -67,7 +68,8 @@ fn after(board: Board, said: usize) -> Turn {
 }
 
 fn told(answer: Answer, out: &mut [u8], said: usize) -> Turn {
-    let state = state_of(answer.board, answer.number);
+    let outcome = answer.outcome;
+    let state = state_of(answer.board, outcome);
     after(answer.board, put_told(out, said, state))
 }
 
@@ -75,36 +77,40 @@ fn told(answer: Answer, out: &mut [u8], said: usize) -> Turn {
 // own lines; in the match above every line would copy it.
 fn framed(board: Board, request: &[u8], reply: &mut [u8], out: &mut [u8], said: usize) -> Turn {
     let answer = board.frame(request, reply);
-    let state = state_of(answer.board, answer.number);
+    let outcome = answer.outcome;
+    let state = state_of(answer.board, outcome);
     after(answer.board, put_replied(out, said, state, reply))
 }
 
 fn fetched(board: Board, room: usize, out: &mut [u8], said: usize) -> Turn {
     let mut reply = [FILLING; MOST_ROOM];
-    let lent = least(room, MOST_ROOM);
+    let lent = lesser(room, MOST_ROOM);
     fetched_into(board, &mut reply[0..lent], out, said)
 }
 
 fn fetched_into(board: Board, reply: &mut [u8], out: &mut [u8], said: usize) -> Turn {
     let answer = board.fetch(reply);
-    let state = state_of(answer.board, answer.number);
+    let outcome = answer.outcome;
+    let state = state_of(answer.board, outcome);
     after(answer.board, put_replied(out, said, state, reply))
 }
 
 fn saved(board: Board, length: usize, out: &mut [u8], said: usize) -> Turn {
     let mut area = [FILLING; MOST_ROOM];
-    let lent = least(length, MOST_ROOM);
+    let lent = lesser(length, MOST_ROOM);
     saved_into(board, &mut area[0..lent], out, said)
 }
 
 fn saved_into(board: Board, area: &mut [u8], out: &mut [u8], said: usize) -> Turn {
     let answer = board.save(area);
-    let state = state_of(answer.board, answer.number);
+    let outcome = answer.outcome;
+    let state = state_of(answer.board, outcome);
     after(answer.board, put_saved(out, said, state, area))
 }
 
 fn heard(heard: Heard, out: &mut [u8], said: usize) -> Turn {
-    let state = state_of(heard.board, heard.number);
+    let outcome = heard.outcome;
+    let state = state_of(heard.board, outcome);
     after(heard.board, put_heard(out, said, state, heard.taken))
 }
 
@@ -114,9 +120,9 @@ fn shown(board: Board, at: u16, out: &mut [u8], said: usize) -> Turn {
 }
 
 // What is shown after a call.
-fn state_of(board: Board, number: u8) -> State {
+fn state_of(board: Board, outcome: Outcome) -> State {
     State {
-        number,
+        number: outcome.number(),
         charge: board.charge_switch(),
         discharge: board.discharge_switch(),
         need: board.decision_bits(),

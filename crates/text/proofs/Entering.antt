@@ -25,7 +25,8 @@ from-next [] = refl
 from-next (b ∷ bs) = go (isSpace b) refl (from-next bs)
   where
     go : (s : Bool) → isSpace b ≡ s → wordsOf bs ≡ wordsOf (drop (until isNoSpace bs) bs)
-        → cond (true && not s) (word (b ∷ bs) ∷ wordsBehind b bs) (wordsBehind b bs) ≡ wordsOf (drop (cond (not s) 0 (suc (until isNoSpace bs))) (b ∷ bs))
+        → cond (true && not s) (word (b ∷ bs) ∷ wordsBehind b bs) (wordsBehind b bs)
+        ≡ wordsOf (drop (cond (not s) 0 (suc (until isNoSpace bs))) (b ∷ bs))
     go true e i = ap (λ (n : ℕ). wordsBehind n bs) (eqb-true b 32 e) ∙ i
     go false e i = rw e
 
@@ -35,7 +36,8 @@ past-word b [] e = refl
 past-word b (c ∷ cs) e = go (isSpace c) refl (past-word c cs)
   where
     go : (s : Bool) → isSpace c ≡ s → (isSpace c ≡ false → wordsBehind c cs ≡ wordsOf (drop (length (word cs)) cs))
-        → cond (isSpace b && isNoSpace c) (word (c ∷ cs) ∷ wordsBehind c cs) (wordsBehind c cs) ≡ wordsOf (drop (length (cond s [] (c ∷ word cs))) (c ∷ cs))
+        → cond (isSpace b && isNoSpace c) (word (c ∷ cs) ∷ wordsBehind c cs) (wordsBehind c cs)
+        ≡ wordsOf (drop (length (cond s [] (c ∷ word cs))) (c ∷ cs))
     go true f i = rw (e, f)
     go false f i = rw e (i f)
 
@@ -70,15 +72,18 @@ pub record Entering (read : List ℕ → Option ℕ) (line : List ℕ) (from : �
 starts-word : (line : List ℕ) (from : ℕ) → wordAt line from < length line → isSpace (getD line (wordAt line from) 0) ≡ false
 starts-word line from h =
     let k : until isNoSpace (drop from line) < length (drop from line) = rw length-drop (omega arith) in
-    not-space (isSpace (getD line (wordAt line from) 0)) (ap isNoSpace (sym (getD-drop from line (until isNoSpace (drop from line)) 0)) ∙ passed isNoSpace (drop from line) k)
+    not-space (isSpace (getD line (wordAt line from) 0)) (ap isNoSpace (sym (getD-drop from line (until isNoSpace (drop from line)) 0))
+    ∙ passed isNoSpace (drop from line) k)
   where
     not-space : (s : Bool) → not s ≡ true → s ≡ false
     not-space true e = sym e
     not-space false e = refl
 
-pub none-entered : {read : List ℕ → Option ℕ} {line : List ℕ} {from at : ℕ} {before : List ℕ} → at ≡ wordAt line from → Entering read line from before at 0 before
+pub none-entered : {read : List ℕ → Option ℕ} {line : List ℕ} {from at : ℕ} {before : List ℕ} → at ≡ wordAt line from
+    → Entering read line from before at 0 before
 none-entered {read} {line} {from} {at} {before} e =
-    let w : wordsOf (drop from line) ≡ wordsOf (drop at line) = from-next (drop from line) ∙ ap wordsOf (drop-drop (until isNoSpace (drop from line)) from line ∙ ap (λ (n : ℕ). drop n line) (sym e)) in
+    let w : wordsOf (drop from line) ≡ wordsOf (drop at line) = from-next (drop from line)
+    ∙ ap wordsOf (drop-drop (until isNoSpace (drop from line)) from line ∙ ap (λ (n : ℕ). drop n line) (sym e)) in
     record {
       done = [];
       long = refl;
@@ -98,13 +103,16 @@ bad-one : {f : Figure} (next end : ℕ) (o : Option ℕ) → f ≡ figure next e
 bad-one next end none e g = refl
 bad-one next end (some n) e g = absurd (let z : _≡_ {A = ℕ} 0 1 = cc (ap (λ (x : Figure). x .good) e) in omega arith)
 
-module _ {read : List ℕ → Option ℕ} {line : List ℕ} {from : ℕ} {before : List ℕ} {at count : ℕ} {after : List ℕ} (g : Entering read line from before at count after) where
-  pub one-entered : {f : Figure} {next : ℕ} → f ≡ readAt read line at → f .good ≡ true → next ≡ wordAt line (f .next) → at < length line → count < length before
+module _ {read : List ℕ → Option ℕ} {line : List ℕ} {from : ℕ} {before : List ℕ} {at count : ℕ} {after : List ℕ}
+    (g : Entering read line from before at count after) where
+  pub one-entered : {f : Figure} {next : ℕ} → f ≡ readAt read line at → f .good ≡ true → next ≡ wordAt line (f .next) → at < length line
+      → count < length before
       → Entering read line from before next (count + 1) (set after count (f .value))
   one-entered {f} {next} e k n h l =
       let o = good-one (at + length (word (drop at line))) (length line) (read (word (drop at line))) e k in
       let w : wordsOf (drop at line) ≡ word (drop at line) ∷ wordsOf (drop next line)
-      = one-word line at h (g .starts h) ∙ ap (λ (p : ℕ). word (drop at line) ∷ wordsOf (drop (wordAt line p) line)) (sym (o .1)) ∙ ap (λ (p : ℕ). word (drop at line) ∷ wordsOf (drop p line)) (sym n) in
+      = one-word line at h (g .starts h) ∙ ap (λ (p : ℕ). word (drop at line) ∷ wordsOf (drop (wordAt line p) line)) (sym (o .1))
+      ∙ ap (λ (p : ℕ). word (drop at line) ∷ wordsOf (drop p line)) (sym n) in
       let v : valuesOf read (wordsOf (drop at line)) ≡ f .value ∷ valuesOf read (wordsOf (drop next line))
       = ap (valuesOf read) w ∙ ap (λ (x : Option ℕ). andMore x (valuesOf read (wordsOf (drop next line)))) (o .0) in
       let m : length (wordsOf (drop at line)) ≡ suc (length (wordsOf (drop next line))) = ap length w in
@@ -117,21 +125,29 @@ module _ {read : List ℕ → Option ℕ} {line : List ℕ} {from : ℕ} {before
             ∙ set-at (g .done) (getD before count 0) (drop (suc count) before) (f .value) count (g .long)
             ∙ sym (append-snoc (g .done) (f .value) (drop (suc count) before))
             ∙ ap (λ (i : ℕ). g .done ++ (f .value ∷ []) ++ drop i before) (sym (add-one count));
-        values = g .values ∙ ap (λ (x : List ℕ). g .done ++ x) v ∙ sym (append-snoc (g .done) (f .value) (valuesOf read (wordsOf (drop next line))));
+        values = g .values ∙ ap (λ (x : List ℕ). g .done ++ x) v
+            ∙ sym (append-snoc (g .done) (f .value) (valuesOf read (wordsOf (drop next line))));
         many = omega (arith, g .many, m);
         starts = rw n (starts-word line (f .next));
       }
 
   -- a word that is wrong
-  pub wrong-word : {f : Figure} → f ≡ readAt read line at → f .good ≡ false → at < length line → Entered read (wordsOf (drop from line)) before Wrong after
+  pub wrong-word : {f : Figure} → f ≡ readAt read line at → f .good ≡ false → at < length line
+      → Entered read (wordsOf (drop from line)) before Wrong after
   wrong-word {f} e k h =
       let o = bad-one (at + length (word (drop at line))) (length line) (read (word (drop at line))) e k in
       let w = one-word line at h (g .starts h) in
       let v : valuesOf read (wordsOf (drop from line)) ≡ g .done
-      = g .values ∙ ap (λ (x : List ℕ). g .done ++ x) (ap (valuesOf read) w ∙ ap (λ (x : Option ℕ). andMore x (valuesOf read (wordsOf (drop (wordAt line (at + length (word (drop at line)))) line)))) o) ∙ append-nil (g .done) in
-      let m : length (wordsOf (drop at line)) ≡ suc (length (wordsOf (drop (wordAt line (at + length (word (drop at line)))) line))) = ap length w in
+      = g .values
+      ∙ ap (λ (x : List ℕ). g .done ++ x) (ap (valuesOf read) w
+      ∙ ap (λ (x : Option ℕ). andMore x (valuesOf read (wordsOf (drop (wordAt line (at + length (word (drop at line)))) line)))) o)
+      ∙ append-nil (g .done) in
+      let m : length (wordsOf (drop at line)) ≡ suc (length (wordsOf (drop (wordAt line (at + length (word (drop at line)))) line))) =
+      ap length w in
       let t : eqb (length (valuesOf read (wordsOf (drop from line)))) (length (wordsOf (drop from line))) ≡ false
-      = ne-eqb (length (valuesOf read (wordsOf (drop from line)))) (length (wordsOf (drop from line))) (λ (z : length (valuesOf read (wordsOf (drop from line))) ≡ length (wordsOf (drop from line))). let y = ap length v in omega (arith, g .long, g .many, m)) in
+      = ne-eqb (length (valuesOf read (wordsOf (drop from line)))) (length (wordsOf (drop from line)))
+      (λ (z : length (valuesOf read (wordsOf (drop from line))) ≡ length (wordsOf (drop from line))). let y = ap length v in
+      omega (arith, g .long, g .many, m)) in
       record {
         many = rw (t, and-false);
         them = rw (v, take-all (length before) (g .done) (omega (arith, g .long, g .room)), g .long) (g .them);
@@ -141,8 +157,10 @@ module _ {read : List ℕ → Option ℕ} {line : List ℕ} {from : ℕ} {before
   pub no-place : at < length line → length before ≤ count → Entered read (wordsOf (drop from line)) before Wrong after
   no-place h k =
       let w = one-word line at h (g .starts h) in
-      let m : length (wordsOf (drop at line)) ≡ suc (length (wordsOf (drop (wordAt line (at + length (word (drop at line)))) line))) = ap length w in
-      let t : leb (length (wordsOf (drop from line))) (length before) ≡ false = lt-leb (length (wordsOf (drop from line))) (length before) (omega (arith, g .many, m)) in
+      let m : length (wordsOf (drop at line)) ≡ suc (length (wordsOf (drop (wordAt line (at + length (word (drop at line)))) line))) =
+      ap length w in
+      let t : leb (length (wordsOf (drop from line))) (length before) ≡ false =
+      lt-leb (length (wordsOf (drop from line))) (length before) (omega (arith, g .many, m)) in
       let c : length (g .done) ≡ length before = omega (arith, g .long, g .room) in
       record {
         many = rw t;
@@ -153,7 +171,8 @@ module _ {read : List ℕ → Option ℕ} {line : List ℕ} {from : ℕ} {before
   pub all-entered : length line ≤ at → Entered read (wordsOf (drop from line)) before (Of count) after
   all-entered h =
       let n : drop at line ≡ [] = drop-of-length-le line h in
-      let v : valuesOf read (wordsOf (drop from line)) ≡ g .done = g .values ∙ ap (λ (x : List ℕ). g .done ++ valuesOf read (wordsOf x)) n ∙ append-nil (g .done) in
+      let v : valuesOf read (wordsOf (drop from line)) ≡ g .done = g .values ∙ ap (λ (x : List ℕ). g .done ++ valuesOf read (wordsOf x)) n
+      ∙ append-nil (g .done) in
       let m : length (wordsOf (drop from line)) ≡ count = g .many ∙ ap (λ (x : List ℕ). count + length (wordsOf x)) n ∙ add-zero count in
       record {
         many = rw (v, g .long, m, le-leb count (length before) (g .room), eq-eqb count count refl);

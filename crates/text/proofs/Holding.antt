@@ -21,7 +21,8 @@ module _ (line : List ℕ) (held b : ℕ) where
   pub too-small : length line ≤ held → length line < 2 → Holds (heldByte (heldOf held line) b) held line
   too-small h k = full line h (rw (lt-ltb (length line) 2 k))
 
-  pub squeezed-in : {byte : ℕ} → length line ≤ held → 2 ≤ length line → byte ≡ noSpace (getD line (length line - 1 - 1) 0) (getD line (length line - 1) 0)
+  pub squeezed-in : {byte : ℕ} → length line ≤ held → 2 ≤ length line → byte
+      ≡ noSpace (getD line (length line - 1 - 1) 0) (getD line (length line - 1) 0)
       → Holds (heldByte (heldOf held line) b) held (set (set line (length line - 1 - 1) byte) (length line - 1) b)
   squeezed-in {byte} h k e = full (set (set line (length line - 1 - 1) byte) (length line - 1) b) h (rw (le-ltb (length line) 2 k, e))
 
@@ -38,14 +39,16 @@ one-held {h} {piece} {i} {count} {more} {bytes} {after} g s l =
     let e : heldOf more after ≡ heldByte (heldOf count bytes) (getD piece i 0) = ap₂ heldOf (s .many) (s .them) in
     record { rest = rw (add-one, e) (rw (drop-cons piece i 0 l) at (g .rest)) }
 
-pub all-held : {h : Held} {piece : List ℕ} {i count : ℕ} {bytes : List ℕ} → Holding h piece i count bytes → length piece ≤ i → Holds (heldAll h piece) count bytes
+pub all-held : {h : Held} {piece : List ℕ} {i count : ℕ} {bytes : List ℕ} → Holding h piece i count bytes → length piece ≤ i
+    → Holds (heldAll h piece) count bytes
 all-held {h} {piece} {i} {count} {bytes} g l =
     let e : heldOf count bytes ≡ heldAll h piece = rw drop-of-length-le at (g .rest) in
     record { many = ap (λ (x : Held). x .count) e; them = ap (λ (x : Held). x .bytes) e }
 
 -- ---- a piece for which there is room
 
-carry : (piece line : List ℕ) (held : ℕ) → held + length piece ≤ length line → heldAll (heldOf held line) piece ≡ heldOf (held + length piece) (sets line held piece)
+carry : (piece line : List ℕ) (held : ℕ) → held + length piece ≤ length line → heldAll (heldOf held line) piece
+    ≡ heldOf (held + length piece) (sets line held piece)
 carry [] line held h = ap (λ (n : ℕ). heldOf n line) (sym (add-zero held))
 carry (b ∷ bs) line held h =
     let t = lt-ltb held (length line) (omega arith) in
@@ -58,4 +61,5 @@ pub carried : (piece line : List ℕ) (held : ℕ) → held + length piece ≤ l
     → take (heldAll (heldOf held line) piece .count) (heldAll (heldOf held line) piece .bytes) ≡ take held line ++ piece
 carried piece line held h =
     let t : length (take held line) ≡ held = length-take-le held line (omega arith) in
-    rw (carry piece line held h, sets-eq piece line held h) (take-at (take held line ++ piece) (drop (held + length piece) line) (held + length piece) (length-append (take held line) piece ∙ omega arith))
+    rw (carry piece line held h, sets-eq piece line held h) (take-at (take held line ++ piece) (drop (held + length piece) line)
+    (held + length piece) (length-append (take held line) piece ∙ omega arith))

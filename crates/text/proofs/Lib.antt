@@ -5,5 +5,7 @@ pub mod Reading
 pub mod Entering
 pub mod Holding
 pub mod Writing
+pub mod Decimal
 pub mod Zeros
 pub mod ReadBack
+mod Facts

@@ -41,7 +41,8 @@ none-of true b e = (e, wrong e)
     wrong e = absurd (let z : _≡_ {A = ℕ} 0 1 = cc in omega arith)
 none-of false b e = (refl, e)
 
-pub one-more : {passes : ℕ → Bool} {xs : List ℕ} {from : ℕ} (i : ℕ) {found : Bool} → (found ≡ false → Ahead passes xs from (from + i)) → from + i < length xs
+pub one-more : {passes : ℕ → Bool} {xs : List ℕ} {from : ℕ} (i : ℕ) {found : Bool} → (found ≡ false → Ahead passes xs from (from + i))
+    → from + i < length xs
     → (found || passes (getD xs (from + i) 0)) ≡ false → Ahead passes xs from (from + (i + 1))
 one-more {passes} {xs} {from} i {found} a h f =
     let n = none-of found (passes (getD xs (from + i) 0)) f in

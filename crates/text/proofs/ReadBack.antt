@@ -1,15 +1,17 @@
 -- What is written is read back: a byte from its two hex digits, a number from its decimal ones. Assumes nothing.
-use mathlib.Core.Path.{_≡_, refl, sym, ap, _∙_}
+use mathlib.Core.Path.{_≡_, refl, ap, _∙_}
 use mathlib.Core.Bool.{Bool, true, false, cond}
-use mathlib.Core.List.{[], _∷_, _++_}
-use mathlib.Core.Option.{none, some}
+use mathlib.Core.List.{List, [], _∷_, _++_}
+use mathlib.Core.Option.{some}
 use Prim.Native.Nat.{ℕ, _+_, _-_, _*_, _/_, _%_, _<_, _≤_}
-use native.Mathlib.Nat.{div-div-eq-div-mul}
 use native.Mathlib.Omega.{arith}
-use borrow.Author.Tests.{leb-true, leb-false, ltb-true, ltb-false, lt-ltb, le-leb, lt-leb}
-use lib.Dec.{ltb, leb}
-use Rattle.text.specs.Numbers.{isDigit, hexOf, byteOf, numberOf}
+use borrow.Author.Tests.{ltb-true, ltb-false, lt-ltb, le-leb, lt-leb}
+use lib.Dec.{ltb}
+use lib.ListN.{length}
+use Rattle.laws.specs.Fold.{gather}
+use Rattle.text.specs.Numbers.{isDigit, allDigits, isNumber, decimalOf, hexOf, byteOf, numberOf}
 use Rattle.text.specs.Digits.{digit, decimalText, hexDigit, hexText}
+use Rattle.text.proofs.Decimal.{by-digits, one-digit, more-digits, some-digit}
 
 hex-back : (n : ℕ) → n < 16 → hexOf (hexDigit n) ≡ n
 hex-back n h = go (ltb n 10) refl
@@ -20,7 +22,13 @@ hex-back n h = go (ltb n 10) refl
         rw (le-leb 48 (48 + n) (omega arith), le-leb (48 + n) 57 (omega arith)) (omega arith)
     go false e =
         let k = ltb-false n 10 e in
-        rw (le-leb 48 (55 + n) (omega arith), lt-leb (55 + n) 57 (omega arith), le-leb 65 (55 + n) (omega arith), le-leb (55 + n) 70 (omega arith)) (omega arith)
+        rw (
+          le-leb 48 (55 + n) (omega arith),
+          lt-leb (55 + n) 57 (omega arith),
+          le-leb 65 (55 + n) (omega arith),
+          le-leb (55 + n) 70 (omega arith),
+        )
+        (omega arith)
 
 -- every byte
 pub byte-back : (b : ℕ) → b < 256 → byteOf (hexText b) ≡ some b
@@ -32,40 +40,33 @@ byte-back b h =
 
 -- ---- decimal
 
-is-digit : (m : ℕ) → isDigit (48 + m % 10) ≡ true
-is-digit m = rw (le-leb 48 (48 + m % 10) (omega arith), le-leb (48 + m % 10) 57 (omega arith))
+is-digit : (n : ℕ) → isDigit (digit n) ≡ true
+is-digit n = rw (le-leb 48 (48 + n % 10) (omega arith), le-leb (48 + n % 10) 57 (omega arith))
 
-less : (m : ℕ) → 48 + m % 10 - 48 ≡ m % 10
-less m = omega arith
+-- one digit more
+digits-more : (xs : List ℕ) (n : ℕ) → allDigits (xs ++ (digit n ∷ [])) ≡ allDigits xs
+digits-more [] n = rw (is-digit n)
+digits-more (x ∷ xs) n = ap (λ (t : Bool). cond (isDigit x) t false) (digits-more xs n)
 
--- every number of up to five digits
-pub number-back : (n most : ℕ) → n < 100000 → n ≤ most → numberOf most (decimalText n) ≡ some n
-unfolding decimalText
-number-back n most h k = go (leb 10000 n) refl (leb 1000 n) refl (leb 100 n) refl (leb 10 n) refl
-  where
-    last : (m : ℕ) → m ≡ n → cond (leb m most) (some m) none ≡ some n
-    last m e = rw (e, le-leb n most k)
+gather-more : (f : ℕ → ℕ → ℕ) (a : ℕ) (xs : List ℕ) (b : ℕ) → gather f a (xs ++ (b ∷ [])) ≡ f (gather f a xs) b
+gather-more f a [] b = refl
+gather-more f a (x ∷ xs) b = gather-more f (f a x) xs b
 
-    -- each place is a tenth of the one before it
-    hundreds : n / 100 ≡ n / 10 / 10
-    hundreds = sym (div-div-eq-div-mul n 10 10)
+all-digits : (n : ℕ) → allDigits (decimalText n) ≡ true
+all-digits =
+    by-digits (λ (n : ℕ). allDigits (decimalText n) ≡ true) (λ n h. rw (one-digit n h, is-digit n))
+    (λ n h i. ap allDigits (more-digits n h) ∙ digits-more (decimalText (n / 10)) n ∙ i)
 
-    thousands : n / 1000 ≡ n / 10 / 10 / 10
-    thousands = sym (div-div-eq-div-mul n 100 10) ∙ ap (λ (m : ℕ). m / 10) hundreds
+same-number : (n : ℕ) → decimalOf (decimalText n) ≡ n
+same-number =
+    by-digits (λ (n : ℕ). decimalOf (decimalText n) ≡ n) (λ n h. ap decimalOf (one-digit n h) ∙ omega arith)
+    (λ n h i. ap decimalOf (more-digits n h) ∙ gather-more (λ m b. 10 * m + (b - 48)) 0 (decimalText (n / 10)) (digit n) ∙ omega arith)
 
-    ten-thousands : n / 10000 ≡ n / 10 / 10 / 10 / 10
-    ten-thousands = sym (div-div-eq-div-mul n 1000 10) ∙ ap (λ (m : ℕ). m / 10) thousands
+is-number : (xs : List ℕ) → 1 ≤ length xs → isNumber xs ≡ allDigits xs
+is-number [] h = absurd (omega arith)
+is-number (x ∷ xs) h = refl
 
-    go : (a : Bool) → leb 10000 n ≡ a → (b : Bool) → leb 1000 n ≡ b → (c : Bool) → leb 100 n ≡ c → (d : Bool) → leb 10 n ≡ d
-        → numberOf most (cond a (digit (n / 10000) ∷ []) [] ++ cond b (digit (n / 1000) ∷ []) [] ++ cond c (digit (n / 100) ∷ []) [] ++ cond d (digit (n / 10) ∷ []) [] ++ (digit n ∷ [])) ≡ some n
-    go true p true q true r true s = let i = leb-true 10000 n p in simp (is-digit, less, hundreds, thousands, ten-thousands) (last _ (omega arith))
-    go false p true q true r true s = let i = leb-false 10000 n p in simp (is-digit, less, hundreds, thousands) (last _ (omega arith))
-    go false p false q true r true s = let i = leb-false 1000 n q in simp (is-digit, less, hundreds) (last _ (omega arith))
-    go false p false q false r true s = let i = leb-false 100 n r in simp (is-digit, less) (last _ (omega arith))
-    go false p false q false r false s = let i = leb-false 10 n s in simp (is-digit, less) (last _ (omega arith))
-    go true p false q c r d s = let i = leb-true 10000 n p in let j = leb-false 1000 n q in absurd (omega arith)
-    go true p true q false r d s = let i = leb-true 1000 n q in let j = leb-false 100 n r in absurd (omega arith)
-    go true p true q true r false s = let i = leb-true 100 n r in let j = leb-false 10 n s in absurd (omega arith)
-    go false p true q false r d s = let i = leb-true 1000 n q in let j = leb-false 100 n r in absurd (omega arith)
-    go false p true q true r false s = let i = leb-true 100 n r in let j = leb-false 10 n s in absurd (omega arith)
-    go false p false q true r false s = let i = leb-true 100 n r in let j = leb-false 10 n s in absurd (omega arith)
+-- every number
+pub number-back : (n most : ℕ) → n ≤ most → numberOf most (decimalText n) ≡ some n
+number-back n most h =
+    rw (is-number (decimalText n) (some-digit n), all-digits n, same-number n, le-leb n most h)

@@ -34,7 +34,9 @@ minus-there line at e = go (ltb at (length line)) refl
 pub below-zero : (line : List ℕ) (at most : ℕ) → startsMinus (drop at line) ≡ true
     → changed (λ n. most + 1 - n) (readAt (numberOf (most + 1)) line (at + 1)) ≡ readAt (signedOf most) line at
 below-zero line at most e =
-    rw (add-one, drop-cons line at 0 h, minus) (changed-figure (λ n. most + 1 - n) (suc at + length (word (drop (suc at) line))) (length line) (numberOf (most + 1) (word (drop (suc at) line))) ∙ ap (λ (n : ℕ). figure n (length line) (changedTo (λ n. most + 1 - n) (numberOf (most + 1) (word (drop (suc at) line))))) place)
+    rw (add-one, drop-cons line at 0 h, minus) (changed-figure (λ n. most + 1 - n) (suc at + length (word (drop (suc at) line)))
+    (length line) (numberOf (most + 1) (word (drop (suc at) line)))
+    ∙ ap (λ (n : ℕ). figure n (length line) (changedTo (λ n. most + 1 - n) (numberOf (most + 1) (word (drop (suc at) line))))) place)
   where
     h : at < length line
     h = minus-there line at e
@@ -45,7 +47,8 @@ below-zero line at most e =
     place : suc at + length (word (drop (suc at) line)) ≡ at + suc (length (word (drop (suc at) line)))
     place = omega arith
 
-from-zero-word : (most : ℕ) (text : List ℕ) → startsMinus text ≡ false → changedTo (λ n. most + 1 + n) (numberOf most (word text)) ≡ signedOf most (word text)
+from-zero-word : (most : ℕ) (text : List ℕ) → startsMinus text ≡ false → changedTo (λ n. most + 1 + n) (numberOf most (word text))
+    ≡ signedOf most (word text)
 from-zero-word most [] e = refl
 from-zero-word most (b ∷ bs) e = go (isSpace b)
   where
@@ -55,7 +58,9 @@ from-zero-word most (b ∷ bs) e = go (isSpace b)
 
 pub from-zero : (line : List ℕ) (at most : ℕ) → startsMinus (drop at line) ≡ false
     → changed (λ n. most + 1 + n) (readAt (numberOf most) line at) ≡ readAt (signedOf most) line at
-from-zero line at most e = changed-figure (λ n. most + 1 + n) (at + length (word (drop at line))) (length line) (numberOf most (word (drop at line))) ∙ ap (figure (at + length (word (drop at line))) (length line)) (from-zero-word most (drop at line) e)
+from-zero line at most e = changed-figure (λ n. most + 1 + n) (at + length (word (drop at line))) (length line)
+    (numberOf most (word (drop at line))) ∙ ap (figure (at + length (word (drop at line))) (length line))
+    (from-zero-word most (drop at line) e)
 
 -- ---- a byte
 
@@ -143,19 +148,27 @@ module _ (line : List ℕ) (at : ℕ) where
   two h =
       let e : at + 1 + 1 ≡ suc (at + 1) = add-one (at + 1) in
       drop-cons line at 0 (omega arith)
-      ∙ ap (λ (l : List ℕ). getD line at 0 ∷ l) (ap (λ (n : ℕ). drop n line) (sym (add-one at)) ∙ drop-cons line (at + 1) 0 h ∙ ap (λ (n : ℕ). getD line (at + 1) 0 ∷ drop n line) (sym e))
+      ∙ ap (λ (l : List ℕ). getD line at 0 ∷ l) (ap (λ (n : ℕ). drop n line) (sym (add-one at)) ∙ drop-cons line (at + 1) 0 h
+      ∙ ap (λ (n : ℕ). getD line (at + 1) 0 ∷ drop n line) (sym e))
 
   module _ {high low : ℕ} (h : at + 1 < length line) (p : high ≡ hexOf (getD line at 0)) (q : low ≡ hexOf (getD line (at + 1) 0)) where
     pub wrong-first : {r : Figure} → 15 < high → r ≡ wrongAt (length line) → r ≡ readAt byteOf line at
-    wrong-first k e = bad (rw (two h) (first-wrong (getD line at 0) (getD line (at + 1) 0 ∷ drop (at + 1 + 1) line) (le-ltb (hexOf (getD line at 0)) 16 (omega (arith, p))))) e
+    wrong-first k e =
+        bad
+        (rw (two h) (first-wrong (getD line at 0) (getD line (at + 1) 0 ∷ drop (at + 1 + 1) line)
+        (le-ltb (hexOf (getD line at 0)) 16 (omega (arith, p))))) e
 
     pub wrong-second : {r : Figure} → 15 < low → r ≡ wrongAt (length line) → r ≡ readAt byteOf line at
-    wrong-second k e = bad (rw (two h) (second-wrong (getD line at 0) (getD line (at + 1) 0) (drop (at + 1 + 1) line) (le-ltb (hexOf (getD line (at + 1) 0)) 16 (omega (arith, q))))) e
+    wrong-second k e =
+        bad
+        (rw (two h) (second-wrong (getD line at 0) (getD line (at + 1) 0) (drop (at + 1 + 1) line)
+        (le-ltb (hexOf (getD line (at + 1) 0)) 16 (omega (arith, q))))) e
 
     whole : high ≤ 15 → low ≤ 15 → word (drop at line) ≡ getD line at 0 ∷ getD line (at + 1) 0 ∷ word (drop (at + 1 + 1) line)
     whole k l = rw (two h, no-space (getD line at 0) (omega (arith, p)), no-space (getD line (at + 1) 0) (omega (arith, q)))
 
-    pub too-long : {r : Figure} → high ≤ 15 → low ≤ 15 → endsWord (drop (at + 1 + 1) line) ≡ false → r ≡ wrongAt (length line) → r ≡ readAt byteOf line at
+    pub too-long : {r : Figure} → high ≤ 15 → low ≤ 15 → endsWord (drop (at + 1 + 1) line) ≡ false → r ≡ wrongAt (length line) → r
+        ≡ readAt byteOf line at
     too-long k l e f = bad (rw (whole k l) (three (getD line at 0) (getD line (at + 1) 0) (drop (at + 1 + 1) line) e)) f
 
     pub is-byte : high ≤ 15 → low ≤ 15 → endsWord (drop (at + 1 + 1) line) ≡ true

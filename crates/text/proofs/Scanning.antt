@@ -45,8 +45,10 @@ record Run (text : List ℕ) : Type 0 where
 -- by its first byte
 record Case (b : ℕ) (bs : List ℕ) (d s : Bool) : Type 0 where
   all : allDigits (cond s [] (b ∷ word bs)) ≡ endsWord (drop (cond (not d) 0 (suc (run bs))) (b ∷ bs))
-  whole : endsWord (drop (cond (not d) 0 (suc (run bs))) (b ∷ bs)) ≡ true → cond s [] (b ∷ word bs) ≡ take (cond (not d) 0 (suc (run bs))) (b ∷ bs)
-  some : isNumber (cond s [] (b ∷ word bs)) ≡ (ltb 0 (cond (not d) 0 (suc (run bs))) && endsWord (drop (cond (not d) 0 (suc (run bs))) (b ∷ bs)))
+  whole : endsWord (drop (cond (not d) 0 (suc (run bs))) (b ∷ bs)) ≡ true → cond s [] (b ∷ word bs)
+      ≡ take (cond (not d) 0 (suc (run bs))) (b ∷ bs)
+  some : isNumber (cond s [] (b ∷ word bs))
+      ≡ (ltb 0 (cond (not d) 0 (suc (run bs))) && endsWord (drop (cond (not d) 0 (suc (run bs))) (b ∷ bs)))
 
 case : (b : ℕ) (bs : List ℕ) (d : Bool) → isDigit b ≡ d → (s : Bool) → isSpace b ≡ s → Run bs → Case b bs d s
 case b bs true e true f r =
@@ -84,12 +86,14 @@ grown : (value sum b : ℕ) → min value 1000000000000 ≡ min sum 100000000000
     → min (withDigit value b) 1000000000000 ≡ min (10 * sum + (b - 48)) 1000000000000
 grown value sum b e r = go (ltb value 1000000000000) refl
   where
-    go : (t : Bool) → ltb value 1000000000000 ≡ t → min (cond t (10 * value + b % 16) value) 1000000000000 ≡ min (10 * sum + (b - 48)) 1000000000000
+    go : (t : Bool) → ltb value 1000000000000 ≡ t → min (cond t (10 * value + b % 16) value) 1000000000000
+        ≡ min (10 * sum + (b - 48)) 1000000000000
     go true f = let h = ltb-true value 1000000000000 f in let d : b % 16 ≡ b - 48 = omega arith in omega arith
     go false f = let h = ltb-false value 1000000000000 f in omega arith
 
 module _ {line : List ℕ} {from at value : ℕ} where
-  pub one-scanned : {more : ℕ} → Scanned line from at value → more ≡ withDigit value (getD line at 0) → at < length line → isDigit (getD line at 0) ≡ true
+  pub one-scanned : {more : ℕ} → Scanned line from at value → more ≡ withDigit value (getD line at 0) → at < length line
+      → isDigit (getD line at 0) ≡ true
       → Scanned line from (at + 1) more
   one-scanned {more} s q h d =
       let k : at + 1 - from ≡ suc (at - from) = omega (arith, s .far) in
@@ -113,10 +117,12 @@ module _ (line : List ℕ) (from end value most : ℕ) where
   pub too-high : {r : Figure} → most < value → r ≡ wrongAt (length line) → r ≡ takenOf line from end value most
   too-high h e = rw (lt-leb value most h) e
 
-  pub taken-in : {ends : Bool} → value ≤ most → ends ≡ endsWord (drop end line) → (ltb from end && ends) ≡ true → figure end (length line) (some value) ≡ takenOf line from end value most
+  pub taken-in : {ends : Bool} → value ≤ most → ends ≡ endsWord (drop end line) → (ltb from end && ends) ≡ true
+      → figure end (length line) (some value) ≡ takenOf line from end value most
   taken-in h e t = rw (le-leb value most h, ← e, t)
 
-  pub not-taken : {ends : Bool} {r : Figure} → value ≤ most → ends ≡ endsWord (drop end line) → (ltb from end && ends) ≡ false → r ≡ wrongAt (length line) → r ≡ takenOf line from end value most
+  pub not-taken : {ends : Bool} {r : Figure} → value ≤ most → ends ≡ endsWord (drop end line) → (ltb from end && ends) ≡ false → r
+      ≡ wrongAt (length line) → r ≡ takenOf line from end value most
   not-taken h e t q = rw (le-leb value most h, ← e, t) q
 
 module _ (line : List ℕ) (from value most : ℕ) where
@@ -125,7 +131,8 @@ module _ (line : List ℕ) (from value most : ℕ) where
 
   taken : most < 1000000000000 → min value 1000000000000 ≡ min (decimalOf (take (run text) text)) 1000000000000
       → takenOf line from (from + run text) value most ≡ readAt (numberOf most) line from
-  taken h e = rw (← drop-drop (run text) from line, before) (go (ltb 0 (run text) && endsWord (drop (run text) text)) refl (leb value most) refl)
+  taken h e = rw (← drop-drop (run text) from line, before) (go (ltb 0 (run text) && endsWord (drop (run text) text)) refl (leb value most)
+      refl)
     where
       before : ltb from (from + run text) ≡ ltb 0 (run text)
       before = go (ltb 0 (run text)) refl
@@ -144,7 +151,8 @@ module _ (line : List ℕ) (from value most : ℕ) where
       sum = decimalOf (take (run text) text)
 
       go : (g : Bool) → (ltb 0 (run text) && endsWord (drop (run text) text)) ≡ g → (t : Bool) → leb value most ≡ t
-          → cond t (cond g (figure (from + run text) (length line) (some value)) (figure (from + run text) (length line) none)) (figure (from + run text) (length line) none)
+          → cond t (cond g (figure (from + run text) (length line) (some value)) (figure (from + run text) (length line) none))
+          (figure (from + run text) (length line) none)
           ≡ readAt (numberOf most) line from
       go false f true k = rw (number ∙ f)
       go false f false k = rw (number ∙ f)
@@ -166,10 +174,12 @@ module _ (line : List ℕ) (from value most : ℕ) where
       q ∙ ap (λ (n : ℕ). takenOf line from n value most) p ∙ taken (omega arith) (rw k at (s .so-far))
 
 -- a byte that is no digit, or the line's end
-pub stopped : {line : List ℕ} {from at value most : ℕ} {r : Figure} → Scanned line from at value → r ≡ takenOf line from at value most → most ≤ 4294967296
+pub stopped : {line : List ℕ} {from at value most : ℕ} {r : Figure} → Scanned line from at value → r ≡ takenOf line from at value most
+    → most ≤ 4294967296
     → at < length line → isDigit (getD line at 0) ≡ false → r ≡ readAt (numberOf most) line from
 stopped {line} {from} {at} {value} {most} s q h l d = stop line from value most s (at-first (s .ahead) l (ap not d)) q h
 
-pub ended : {line : List ℕ} {from at value most : ℕ} {r : Figure} → Scanned line from at value → r ≡ takenOf line from at value most → most ≤ 4294967296
+pub ended : {line : List ℕ} {from at value most : ℕ} {r : Figure} → Scanned line from at value → r ≡ takenOf line from at value most
+    → most ≤ 4294967296
     → length line ≤ at → r ≡ readAt (numberOf most) line from
 ended {line} {from} {at} {value} {most} s q h l = stop line from value most s (at-end (s .ahead) l) q h

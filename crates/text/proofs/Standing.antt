@@ -20,7 +20,8 @@ fails : (word line : List ℕ) (from : ℕ) → stands word (drop from line) ≡
 fails word line from e = rw e
 
 module _ {word line : List ℕ} {from i at : ℕ} where
-  pub one-same : Same word line from i at → i < length word → at < length line → getD line at 0 ≡ getD word i 0 → Same word line from (i + 1) (at + 1)
+  pub one-same : Same word line from i at → i < length word → at < length line → getD line at 0 ≡ getD word i 0
+      → Same word line from (i + 1) (at + 1)
   one-same s h k e =
       let f : stands (drop i word) (drop at line) ≡ stands (drop (suc i) word) (drop (suc at) line)
       = rw (drop-cons word i 0 h, drop-cons line at 0 k, eq-eqb (getD line at 0) (getD word i 0) e) in
@@ -31,7 +32,8 @@ module _ {word line : List ℕ} {from i at : ℕ} where
       let f : stands (drop i word) (drop at line) ≡ false = rw (drop-cons word i 0 h, drop-of-length-le line k) in
       fails word line from (s .rest ∙ f)
 
-  pub differs : Same word line from i at → i < length word → at < length line → (getD line at 0 ≡ getD word i 0 → ⊥) → 0 ≡ placeAfter word line from
+  pub differs : Same word line from i at → i < length word → at < length line → (getD line at 0 ≡ getD word i 0 → ⊥) → 0
+      ≡ placeAfter word line from
   differs s h k e =
       let f : stands (drop i word) (drop at line) ≡ false
       = rw (drop-cons word i 0 h, drop-cons line at 0 k, ne-eqb (getD line at 0) (getD word i 0) e) in

@@ -1,16 +1,16 @@
 -- Texts that are written one after the other are one text, and a text is put where there is room. Assumes nothing.
 use mathlib.Core.Path.{_≡_, refl, sym, ap, ap₂, _∙_}
-use mathlib.Core.Bool.{Bool, true, false}
-use mathlib.Core.List.{List, [], _∷_, _++_}
-use Prim.Native.Nat.{ℕ, suc, _+_, _-_, _*_, _/_, _%_, _<_, _≤_}
-use native.Mathlib.Nat.{add-zero}
+use mathlib.Core.Bool.{Bool, true, false, cond}
+use mathlib.Core.List.{List, [], _∷_, _++_, append-assoc, append-nil}
+use Prim.Native.Nat.{ℕ, zero, suc, _+_, _-_, _*_, _/_, _%_, _<_, _≤_}
+use native.Mathlib.Nat.{add-zero, mul-zero, mul-suc}
 use native.Mathlib.Numerals.{add-one}
 use native.Mathlib.Omega.{arith}
 use borrow.Author.Tests.{leb-true, leb-false, le-leb, lt-leb}
 use lib.Dec.{leb}
 use lib.ListN.{length, take, getD, set, length-append}
-use lib.Seq.{sets, take-suc, take-all, length-take-le}
-use Rattle.text.specs.Digits.{digit, leading, decimalText, hexDigit, hexText, spacedText, bytesText, Wrote, Put}
+use lib.Seq.{sets, length-sets, take-suc, take-all, length-take-le}
+use Rattle.text.specs.Digits.{hexDigit, hexText, eachText, spacedText, bytesText, Wrote, Put}
 
 sets-append : (xs ys l : List ℕ) (at : ℕ) → sets (sets l at xs) (at + length xs) ys ≡ sets l at (xs ++ ys)
 sets-append [] ys l at = rw add-zero
@@ -32,15 +32,43 @@ join {l₀} {l₁} {l₂} {xs} {ys} {at} {p₁} {p₂} v w =
     }
 
 -- where the room was asked for as many bytes as the text has
-pub put-room : {l l′ text : List ℕ} {at next : ℕ} (n : ℕ) {r : Bool} → Wrote l at text next l′ → length text ≡ n → r ≡ leb (at + n) (length l) → r ≡ true → Put l at text next l′
+pub put-room : {l l′ text : List ℕ} {at next : ℕ} (n : ℕ) {r : Bool} → Wrote l at text next l′ → length text ≡ n
+    → r ≡ leb (at + n) (length l) → r ≡ true → Put l at text next l′
 put-room {l} {text = text} {at} n w k e t =
     let f : leb (at + length text) (length l) ≡ true = rw k (sym e ∙ t) in
     record { place = rw f (w .place); bytes = rw f (w .bytes) }
 
-pub put-none : {l text : List ℕ} {at : ℕ} (n : ℕ) {r : Bool} → length text ≡ n → r ≡ leb (at + n) (length l) → r ≡ false → Put l at text at l
+pub put-none : {l text : List ℕ} {at : ℕ} (n : ℕ) {r : Bool} → length text ≡ n → r ≡ leb (at + n) (length l) → r ≡ false
+    → Put l at text at l
 put-none {l} {text} {at} n k e t =
     let f : leb (at + length text) (length l) ≡ false = rw k (sym e ∙ t) in
     record { place = rw f; bytes = rw f }
+
+-- what has room is written
+pub put-wrote : {l l′ text : List ℕ} {at next : ℕ} → Put l at text next l′ → at + length text ≤ length l → Wrote l at text next l′
+put-wrote {l} {text = text} {at} p h =
+    let f : leb (at + length text) (length l) ≡ true = le-leb (at + length text) (length l) h in
+    record { place = rw f at (p .place); bytes = rw f at (p .bytes) }
+
+pub same-long : {l l′ text : List ℕ} {at next : ℕ} → Wrote l at text next l′ → length l′ ≡ length l
+same-long {l} {text = text} {at} w = ap length (w .bytes) ∙ length-sets l at text
+
+-- a text that is put behind another, where there is room for both
+pub join-put : {l₀ l₁ l₂ xs ys : List ℕ} {at p₁ p₂ : ℕ} → Wrote l₀ at xs p₁ l₁ → Put l₁ p₁ ys p₂ l₂
+    → at + length xs + length ys ≤ length l₀ → Wrote l₀ at (xs ++ ys) p₂ l₂
+join-put v p h = let same = same-long v in join v (put-wrote p (omega (arith, v .place)))
+
+-- nothing has room everywhere
+pub put-nothing : {l : List ℕ} {at : ℕ} → Put l at [] at l
+put-nothing {l} {at} = record { place = place (leb (at + 0) (length l)); bytes = bytes (leb (at + 0) (length l)) }
+  where
+    place : (t : Bool) → at ≡ cond t (at + 0) at
+    place true = sym (add-zero at)
+    place false = refl
+
+    bytes : (t : Bool) → l ≡ cond t l l
+    bytes true = refl
+    bytes false = refl
 
 pub one-place : {l : List ℕ} {at b r : ℕ} → r ≡ b → Wrote l at (b ∷ []) (at + 1) (set l at r)
 one-place {l} {at} e = record { place = refl; bytes = ap (set l at) e }
@@ -72,56 +100,67 @@ has a b e t = leb-true a b (sym e ∙ t)
 
 -- ---- digits in a row
 
-pub two-digits : {l : List ℕ} {at x y : ℕ} (b : ℕ) → x ≡ hexDigit (b / 16) → y ≡ hexDigit (b % 16) → Wrote l at (hexText b) (at + 2) (set (set l at x) (at + 1) y)
+pub two-digits : {l : List ℕ} {at x y : ℕ} (b : ℕ) → x ≡ hexDigit (b / 16) → y ≡ hexDigit (b % 16)
+    → Wrote l at (hexText b) (at + 2) (set (set l at x) (at + 1) y)
 two-digits b p q = record { place = refl; bytes = rw (p, q, add-one) }
 
-pub leading-wrote : {l : List ℕ} {at p n d : ℕ} → p ≤ n → d ≡ digit (n / p) → Wrote l at (leading p n) (at + 1) (set l at d)
-leading-wrote {p = p} {n = n} h e = rw (le-leb p n h) (one-place e)
+-- ---- texts in a row
 
-pub leading-kept : {l : List ℕ} {at : ℕ} (p n : ℕ) → n < p → Wrote l at (leading p n) at l
-leading-kept p n h = rw (lt-leb p n h) none
+pub each-length : (k : ℕ) (text : ℕ → List ℕ) → ((b : ℕ) → length (text b) ≡ k) → (bs : List ℕ) → length (eachText text bs) ≡ k * length bs
+each-length k text long [] = sym (mul-zero k)
+each-length k text long (b ∷ bs) =
+    let e = each-length k text long bs in
+    length-append (text b) (eachText text bs) ∙ omega (arith, long b, mul-suc k (length bs))
 
-pub leading-one : (p n : ℕ) → p ≤ n → length (leading p n) ≡ 1
-leading-one p n h = rw (le-leb p n h)
+module _ (text : ℕ → List ℕ) where
+  each-append : (xs ys : List ℕ) → eachText text (xs ++ ys) ≡ eachText text xs ++ eachText text ys
+  each-append [] ys = refl
+  each-append (x ∷ xs) ys =
+      ap (λ (l : List ℕ). text x ++ l) (each-append xs ys) ∙ sym (append-assoc (text x) (eachText text xs) (eachText text ys))
 
-pub leading-none : (p n : ℕ) → n < p → length (leading p n) ≡ 0
-leading-none p n h = rw (lt-leb p n h)
+  -- so many, and one more
+  each-suc : (bs : List ℕ) (i : ℕ) → i < length bs → eachText text (take (i + 1) bs) ≡ eachText text (take i bs) ++ text (getD bs i 0)
+  each-suc bs i h = rw (add-one, take-suc bs i 0 h, each-append, append-nil)
 
-pub decimal-length : (n : ℕ) → length (decimalText n) ≡ length (leading 10000 n) + length (leading 1000 n) + length (leading 100 n) + length (leading 10 n) + 1
-unfolding decimalText
-decimal-length n = simp length-append
+  pub each-long : (bs : List ℕ) (i : ℕ) → i < length bs
+      → length (eachText text (take (i + 1) bs)) ≡ length (eachText text (take i bs)) + length (text (getD bs i 0))
+  each-long bs i h = ap length (each-suc bs i h) ∙ length-append (eachText text (take i bs)) (text (getD bs i 0))
 
-pub decimal-wrote : {l₀ l₁ l₂ l₃ l₄ : List ℕ} {at p₁ p₂ p₃ p₄ d : ℕ} (n : ℕ) → Wrote l₀ at (leading 10000 n) p₁ l₁ → Wrote l₁ p₁ (leading 1000 n) p₂ l₂ → Wrote l₂ p₂ (leading 100 n) p₃ l₃
-    → Wrote l₃ p₃ (leading 10 n) p₄ l₄ → d ≡ digit n → Wrote l₀ at (decimalText n) (p₄ + 1) (set l₄ p₄ d)
-unfolding decimalText
-decimal-wrote n a b c d e = join (join (join (join a b) c) d) (one-place e)
+  pub each-more : {l₀ l₁ l₂ : List ℕ} {at p₁ p₂ : ℕ} (bs : List ℕ) (i : ℕ) → Wrote l₀ at (eachText text (take i bs)) p₁ l₁
+      → Wrote l₁ p₁ (text (getD bs i 0)) p₂ l₂ → i < length bs → Wrote l₀ at (eachText text (take (i + 1) bs)) p₂ l₂
+  each-more bs i v w h = rw (each-suc bs i h) (join v w)
 
-pub one-digit : (n : ℕ) → n < 10 → decimalText n ≡ digit n ∷ []
-unfolding decimalText
-one-digit n h = rw (lt-leb 10000 n (omega arith), lt-leb 1000 n (omega arith), lt-leb 100 n (omega arith), lt-leb 10 n h)
+  -- so many and one more have no more bytes than all
+  pub each-room : (bs : List ℕ) (i : ℕ) → i < length bs
+      → length (eachText text (take i bs)) + length (text (getD bs i 0)) ≤ length (eachText text bs)
+  each-room [] i h = absurd (omega arith)
+  each-room (b ∷ bs) zero h = rw length-append (omega arith)
+  each-room (b ∷ bs) (suc i) h =
+      let more = each-room bs i (omega arith) in
+      rw (length-append (text b) (eachText text (take i bs)), length-append (text b) (eachText text bs)) (omega arith)
 
-pub one-digit-put : {l l′ : List ℕ} {at next d : ℕ} (n : ℕ) → Put l at (d ∷ []) next l′ → d ≡ digit n → n < 10 → Put l at (decimalText n) next l′
-one-digit-put n p e h = rw (one-digit n h, ← e) p
-
--- ---- bytes in a row
+  pub each-wrote : {l₀ l₁ : List ℕ} {at p : ℕ} (bs : List ℕ) (i : ℕ) → Wrote l₀ at (eachText text (take i bs)) p l₁ → length bs ≤ i
+      → Wrote l₀ at (eachText text bs) p l₁
+  each-wrote bs i w h = rw (take-all i bs h) at w
 
 pub bytes-length : (bs : List ℕ) → length (bytesText bs) ≡ 3 * length bs
-bytes-length [] = refl
-bytes-length (b ∷ bs) = let e = bytes-length bs in omega arith
+bytes-length bs = each-length 3 spacedText (λ b. refl) bs
 
-bytes-append : (xs : List ℕ) (b : ℕ) → bytesText (xs ++ (b ∷ [])) ≡ bytesText xs ++ spacedText b
-bytes-append [] b = refl
-bytes-append (x ∷ xs) b = ap (λ (l : List ℕ). spacedText x ++ l) (bytes-append xs b)
-
-pub bytes-more : {l₀ l₁ l₂ : List ℕ} {at p₁ p₂ : ℕ} (bs : List ℕ) (i : ℕ) → Wrote l₀ at (bytesText (take i bs)) p₁ l₁ → Wrote l₁ p₁ (spacedText (getD bs i 0)) p₂ l₂ → i < length bs
-    → Wrote l₀ at (bytesText (take (i + 1) bs)) p₂ l₂
-bytes-more bs i v w h = rw (add-one, take-suc bs i 0 h, bytes-append) (join v w)
-
-pub bytes-place : {l₀ l₁ : List ℕ} {at p : ℕ} (bs : List ℕ) (i : ℕ) → Wrote l₀ at (bytesText (take i bs)) p l₁ → i ≤ length bs → p ≡ at + 3 * i
+pub bytes-place : {l₀ l₁ : List ℕ} {at p : ℕ} (bs : List ℕ) (i : ℕ) → Wrote l₀ at (bytesText (take i bs)) p l₁ → i ≤ length bs
+    → p ≡ at + 3 * i
 bytes-place bs i w h =
     let e = bytes-length (take i bs) in
     let f = length-take-le i bs h in
     omega (arith, w .place)
 
-pub bytes-wrote : {l₀ l₁ : List ℕ} {at p : ℕ} (bs : List ℕ) (i : ℕ) → Wrote l₀ at (bytesText (take i bs)) p l₁ → length bs ≤ i → Wrote l₀ at (bytesText bs) p l₁
-bytes-wrote bs i w h = rw (take-all i bs h) at w
+-- ---- the bytes of a text in a row
+
+pub text-more : {l₀ l₁ : List ℕ} {at : ℕ} (text : List ℕ) (i : ℕ) → Wrote l₀ at (take i text) (at + i) l₁ → i < length text
+    → Wrote l₀ at (take (i + 1) text) (at + (i + 1)) (set l₁ (at + i) (getD text i 0))
+text-more {at = at} text i w h =
+    let e : at + (i + 1) ≡ at + i + 1 = omega arith in
+    rw (e, add-one i, take-suc text i 0 h) (join w (one (getD text i 0)))
+
+pub text-wrote : {l₀ l₁ : List ℕ} {at p : ℕ} (text : List ℕ) (i : ℕ) → Wrote l₀ at (take i text) p l₁ → length text ≤ i
+    → Wrote l₀ at text p l₁
+text-wrote text i w h = rw (take-all i text h) at w

@@ -41,7 +41,8 @@ last-used xs n h k e =
 
 -- ---- sixteen together
 
-pub one-more-zero : (xs : List ℕ) (at i : ℕ) {found : Bool} → (found ≡ false → used (take (at + i) xs) ≡ used (take at xs)) → at + i < length xs
+pub one-more-zero : (xs : List ℕ) (at i : ℕ) {found : Bool} → (found ≡ false → used (take (at + i) xs) ≡ used (take at xs))
+    → at + i < length xs
     → (found || not (eqb (getD xs (at + i) 0) 0)) ≡ false → used (take (at + (i + 1)) xs) ≡ used (take at xs)
 one-more-zero xs at i {found} e h f =
     let n = none-of found (not (eqb (getD xs (at + i) 0) 0)) f in
@@ -49,7 +50,8 @@ one-more-zero xs at i {found} e h f =
     let k : at + (i + 1) ≡ at + i + 1 = omega arith in
     rw k (one-zero xs (at + i) h z ∙ e (n .0))
 
-pub sixteen-zeros : (xs : List ℕ) (n : ℕ) → 16 ≤ n → used (take (n - 16 + 16) xs) ≡ used (take (n - 16) xs) → used (take n xs) ≡ used xs → used (take (n - 16) xs) ≡ used xs
+pub sixteen-zeros : (xs : List ℕ) (n : ℕ) → 16 ≤ n → used (take (n - 16 + 16) xs) ≡ used (take (n - 16) xs) → used (take n xs) ≡ used xs
+    → used (take (n - 16) xs) ≡ used xs
 sixteen-zeros xs n h e f =
     let k : n - 16 + 16 ≡ n = omega arith in
     sym (rw k at e) ∙ f

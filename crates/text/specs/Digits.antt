@@ -3,7 +3,7 @@
 use mathlib.Core.Bool.{Bool, cond, _&&_}
 use mathlib.Core.List.{List, [], _∷_, _++_}
 use mathlib.Core.Path.{_≡_}
-use Prim.Native.Nat.{ℕ, suc, _+_, _/_, _%_}
+use Prim.Native.Nat.{ℕ, zero, suc, _+_, _/_, _%_}
 use lib.Dec.{eqb, leb, ltb}
 use lib.ListN.{length}
 use lib.Seq.{sets}
@@ -12,13 +12,15 @@ use lib.Seq.{sets}
 abbrev pub digit : ℕ → ℕ
 digit n = 48 + n % 10
 
--- the digit of the tens, hundreds and so on, if the number goes so far
-abbrev pub leading : ℕ → ℕ → List ℕ
-leading place n = cond (leb place n) (digit (n / place) ∷ []) []
+-- numbers are decimal, with no zeros before them: the digits of the tenth part, if the number goes so far, and then the last digit
+-- (the choice is applied afterwards, so that nothing but the digits is computed); so many at most stand before the last
+unfoldable pub digitsWithin : ℕ → ℕ → List ℕ
+digitsWithin zero n = digit n ∷ []
+digitsWithin (suc more) n = cond (ltb n 10) (λ (tenth : ℕ). []) (digitsWithin more) (n / 10) ++ (digit n ∷ [])
 
--- numbers are decimal: a number of 16 bits, with no zeros before it
+-- no number has more digits before its last than it counts
 unfoldable pub decimalText : ℕ → List ℕ
-decimalText n = leading 10000 n ++ leading 1000 n ++ leading 100 n ++ leading 10 n ++ (digit n ∷ [])
+decimalText n = digitsWithin n n
 
 -- upper-case hex digits: 0 to 9, then A to F
 abbrev pub hexDigit : ℕ → ℕ
@@ -32,13 +34,17 @@ hexText byte = hexDigit (byte / 16) ∷ hexDigit (byte % 16) ∷ []
 abbrev pub wordText : ℕ → List ℕ
 wordText word = hexText (word / 256) ++ hexText (word % 256)
 
+-- one text for each byte, in their order
+abbrev pub eachText : (ℕ → List ℕ) → List ℕ → List ℕ
+eachText text [] = []
+eachText text (b ∷ bs) = text b ++ eachText text bs
+
 -- bytes, with a space before each
 abbrev pub spacedText : ℕ → List ℕ
 spacedText byte = 32 ∷ hexText byte
 
 abbrev pub bytesText : List ℕ → List ℕ
-bytesText [] = []
-bytesText (b ∷ bs) = spacedText b ++ bytesText bs
+bytesText bs = eachText spacedText bs
 
 -- how many bytes there are up to the last that is not zero
 abbrev pub used : List ℕ → ℕ

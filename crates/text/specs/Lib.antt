@@ -3,4 +3,3 @@ pub mod Words
 pub mod Numbers
 pub mod Digits
 pub mod Scan
-mod Facts

@@ -47,7 +47,8 @@ squeezed line b =
 -- a byte behind those that are held, if there is room
 abbrev pub heldByte : Held → ℕ → Held
 heldByte h b =
-    cond (ltb (h .count) (length (h .bytes))) (heldOf (h .count + 1) (set (h .bytes) (h .count) b)) (heldOf (h .count) (squeezed (h .bytes) b))
+    cond (ltb (h .count) (length (h .bytes))) (heldOf (h .count + 1) (set (h .bytes) (h .count) b))
+    (heldOf (h .count) (squeezed (h .bytes) b))
 
 -- one byte after the other
 abbrev pub heldAll : Held → List ℕ → Held

@@ -16,7 +16,8 @@ withDigit n b = cond (ltb n 1000000000000) (10 * n + b % 16) n
 -- the number whose digits stand from one place to another, if a word ends there
 abbrev pub takenOf : List ℕ → ℕ → ℕ → ℕ → ℕ → Figure
 takenOf line from end value most =
-    cond (leb value most) (cond (ltb from end && endsWord (drop end line)) (figure end (length line) (some value)) (figure end (length line) none)) (figure end (length line) none)
+    cond (leb value most) (cond (ltb from end && endsWord (drop end line)) (figure end (length line) (some value))
+    (figure end (length line) none)) (figure end (length line) none)
 
 abbrev pub startsMinus : List ℕ → Bool
 startsMinus [] = false

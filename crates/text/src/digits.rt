@@ -6,7 +6,7 @@ ghost use mathlib.Core.Path.{_≡_};
 ghost use Prim.Native.Nat.{_+_, _*_, _≤_, _<_};
 ghost use lib.Dec.{leb};
 ghost use lib.ListN.{length, take};
-ghost use Rattle.text.specs.Digits.{digit, leading, decimalText, hexDigit, hexText, wordText, spacedText, bytesText, used, Put, Wrote};
+ghost use Rattle.text.specs.Digits.{digit, decimalText, hexDigit, hexText, wordText, spacedText, bytesText, used, Put, Wrote};
 use crate::words::SPACE;
 
 pub fn put(out: &mut [u8], at: usize, byte: u8) -> usize
@@ -19,15 +19,26 @@ pub fn put(out: &mut [u8], at: usize, byte: u8) -> usize
     at
 }
 
+// A text as it is.
+pub fn put_text(out: &mut [u8], at: usize, text: &[u8]) -> usize
+    ensures { λ r. ⌜ Put (now (out .entry)) at (now (text .entry)) r (now (out .exit)) ⌝ }
+{
+    if has_room(out.len(), at, text.len()) {
+        return write_text(out, at, text);
+    }
+    at
+}
+
 // A number in decimal, with no zeros before it.
-pub fn put_decimal(out: &mut [u8], at: usize, number: u16) -> usize
+pub fn put_decimal(out: &mut [u8], at: usize, number: u64) -> usize
     ensures { λ r. ⌜ Put (now (out .entry)) at (decimalText number) r (now (out .exit)) ⌝ }
 {
     if number < 10 {
         return put(out, at, last_digit(number));
     }
-    if has_room(out.len(), at, decimal_length(number)) {
-        return write_decimal(out, at, number);
+    let count = decimal_length(number);
+    if has_room(out.len(), at, count) {
+        return write_decimal(out, at, number, count);
     }
     at
 }
@@ -126,49 +137,48 @@ fn hex_digit(value: u8) -> u8
     }
 }
 
-fn decimal_length(number: u16) -> usize
-    ensures { λ r. ⌜ r ≡ length (decimalText number) ⌝ }
+fn write_text(out: &mut [u8], at: usize, text: &[u8]) -> usize
+    requires { ⌜ at + length (now text) ≤ length (now out) ⌝ }
+    ensures { λ r. ⌜ Wrote (now (out .entry)) at (now (text .entry)) r (now (out .exit)) ⌝ }
 {
-    if number < 10 {
-        return 1;
+    let mut i = 0;
+    while i < text.len() {
+        out[at + i] = text[i];
+        i += 1;
     }
-    if number < 100 {
-        return 2;
-    }
-    if number < 1000 {
-        return 3;
-    }
-    if number < 10000 {
-        return 4;
-    }
-    5
+    at + i
 }
 
-fn write_decimal(out: &mut [u8], at: usize, number: u16) -> usize
-    requires { ⌜ at + length (decimalText number) ≤ length (now out) ⌝ }
+// How many digits a number has; none of 64 bits has more than 20.
+pub fn decimal_length(number: u64) -> usize
+    ensures { λ r. ⌜ (r ≡ length (decimalText number)) × (r ≤ 20) ⌝ }
+{
+    let mut count = 1;
+    let mut left = number;
+    while 10 <= left {
+        left = left / 10;
+        count += 1;
+    }
+    count
+}
+
+// So many digits, the last one first.
+fn write_decimal(out: &mut [u8], at: usize, number: u64, count: usize) -> usize
+    requires { ⌜ (count ≡ length (decimalText number)) × (at + count ≤ length (now out)) ⌝ }
     ensures { λ r. ⌜ Wrote (now (out .entry)) at (decimalText number) r (now (out .exit)) ⌝ }
 {
-    let thousands = write_leading(out, at, number, 10000);
-    let hundreds = write_leading(out, thousands, number, 1000);
-    let tens = write_leading(out, hundreds, number, 100);
-    let ones = write_leading(out, tens, number, 10);
-    out[ones] = last_digit(number);
-    ones + 1
-}
-
-// The digit at a place of a number, where the number goes so far.
-fn write_leading(out: &mut [u8], at: usize, number: u16, place: u16) -> usize
-    requires { ⌜ (0 < place) × (at + length (leading place number) ≤ length (now out)) ⌝ }
-    ensures { λ r. ⌜ Wrote (now (out .entry)) at (leading place number) r (now (out .exit)) ⌝ }
-{
-    if place <= number {
-        out[at] = last_digit(number / place);
-        return at + 1;
+    let mut rest = number;
+    let mut place = at + count - 1;
+    while 10 <= rest {
+        out[place] = last_digit(rest);
+        place -= 1;
+        rest = rest / 10;
     }
-    at
+    out[at] = last_digit(rest);
+    at + count
 }
 
-fn last_digit(number: u16) -> u8
+fn last_digit(number: u64) -> u8
     ensures { λ r. ⌜ r ≡ digit number ⌝ }
 {
     b'0' + ((number % 10) as u8)

@@ -3,11 +3,13 @@ mod digits;
 mod lines;
 mod words;
 
+pub use digits::decimal_length;
 pub use digits::has_room;
 pub use digits::put;
 pub use digits::put_byte;
 pub use digits::put_bytes;
 pub use digits::put_decimal;
+pub use digits::put_text;
 pub use digits::put_word;
 pub use digits::without_zeros;
 pub use lines::LF;

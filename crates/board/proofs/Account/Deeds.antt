@@ -1,135 +1,149 @@
--- After a call the history is as it was, or as it is where the call is done: what holds of both holds after every call.
--- Assumes nothing.
-use mathlib.Core.Path.{_≡_, refl}
-use mathlib.Core.Bool.{Bool, true, false, cond}
-use mathlib.Core.List.{List, [], _∷_}
+-- A history of calls, deed by deed: what holds at the start and is kept by every deed that a call may do, holds after all calls. Which
+-- calls there are does not matter here: each says, by its shape, which deeds it does, and `allowed` that those may be done. Assumes
+-- nothing.
+use mathlib.Core.Path.{_≡_, refl, sym, ap, _∙_}
+use mathlib.Core.Bool.{Bool, true, false, not, cond, false≢true}
+use mathlib.Core.List.{List, [], _∷_, _++_}
 use Prim.Native.Nat.{ℕ}
-use lib.Dec.{eqb, ltb}
-use lib.ListN.{length, take}
-use Rattle.events.specs.Memory.{loadNumber, eventsIn}
-use Rattle.readings.specs.Readings.{judgedOf, numberOf}
-use Rattle.receiver.specs.Receiver.{complete}
-use Rattle.receiver.specs.Heard.{takes}
-use Rattle.settings.specs.declared.Settings.{Settings}
-use Rattle.requests.specs.declared.Form.{Form}
+use lib.Dec.{ltb}
+use lib.ListN.{length}
+use Rattle.laws.specs.History.{any}
+use Rattle.refusals.specs.declared.Refusal.the-variants.{NoRoom, WrongCells, WrongCurrent, NoInternal, WrongPulses, WrongArea}
+use Rattle.refusals.specs.declared.Refusal.the-variants.{UsedAfterUnused, NeverRecorded, NoFrameHeld}
+use Rattle.refusals.specs.declared.Outcome.{Outcome}
+use Rattle.refusals.specs.declared.Outcome.the-variants.{Done, Refused}
+use Rattle.refusals.specs.Refusals.{isDone, first}
+use Rattle.refusals.proofs.Rows.{refused-not, done-is, off}
+use Rattle.events.specs.declared.Event.{Event}
+use Rattle.events.specs.Area.{neitherArea, recordsIn, usedOf, parted, neverRecorded, loadRows}
+use Rattle.readings.specs.declared.Readings.{Readings}
+use Rattle.readings.specs.Readings.{wrongCells, wrongCurrent, noInternal, wrongPulses, tickRows}
 use Rattle.requests.specs.declared.Request.{Request}
 use Rattle.requests.specs.declared.Request.the-variants as request
-use Rattle.requests.specs.Requests.{requestOf, pairsOf, marks}
+use Rattle.requests.specs.Requests.{requestOf, marks}
+use Rattle.writes.specs.Writes.{pairsOf}
+use Rattle.answers.specs.Answers.{writeOutcome, askedOutcome}
 use Rattle.pack.specs.Pack.{usableCount}
-use Rattle.board.specs.Frames.{writeNumber}
+use Rattle.board.specs.declared.Board.{Board}
+use Rattle.board.specs.Changes.{askedDeeds}
+use Rattle.board.specs.Line.{heldIn, holds}
+use Rattle.board.specs.Promises.{requestOutcome}
 use Rattle.board.specs.Calls.{Call, tick, frame, handover, offer, fetch, save, load}
-use Rattle.board.specs.Account.{Deed, took, wrote, cleared, forgot, sent, handed, heard, fetched, loaded, row, settingsAt, heardAt, heldAt, asking, calling}
+use Rattle.board.specs.Calls.{frameRows, shape, letsGo}
+use Rattle.board.specs.Account.{Deed, took, wrote, cleared, forgot, sent, handed, heard, fetched, loaded, row, settingsAt, boardAt}
+use Rattle.board.specs.Account.{outcomeAt, historyBy, calling, deedsOf}
+use Rattle.board.proofs.Shape.{is-done}
+use Rattle.board.proofs.Asked.{by-table}
 
-module _ (P : List Deed → Type 0) (h : List Deed) where
-  -- of what a request asks: it holds of the history, and of each thing that a request may do
-  abbrev pub WhereAsked : Settings → List ℕ → Request → Type 0
-  WhereAsked st s (request.Refused refusal) = Unit {0}
-  WhereAsked st s request.ClearEvents = P (forgot ∷ h)
-  WhereAsked st s request.ClearStatistics = P (cleared ∷ h)
-  WhereAsked st s (request.Write f n) = eqb (writeNumber st (pairsOf f s n)) 0 ≡ true → P (wrote (pairsOf f s n) ∷ h)
-  WhereAsked st s (request.Read q) = P (sent ∷ h)
+module _ (cells perKm : ℕ) where
+  -- of a tick that is taken
+  pub record Good (given : List ℕ) (r : Readings) : Type 0 where
+    pub count : usableCount cells ≡ true
+    pub cells-right : wrongCells cells (length given) ≡ false
+    pub current-right : wrongCurrent (r .current) ≡ false
+    pub internal-right : noInternal (r .internal) ≡ false
+    pub pulses-right : wrongPulses perKm (r .pulses) ≡ false
 
-  pub any-asked : P h → (st : Settings) (s : List ℕ) (q : Request) → WhereAsked st s q → P (asking st s q h)
-  unfolding asking
-  any-asked none st s (request.Refused refusal) p = none
-  any-asked none st s request.ClearEvents p = p
-  any-asked none st s request.ClearStatistics p = p
-  any-asked none st s (request.Write f n) p = go (eqb (writeNumber st (pairsOf f s n)) 0) refl
-    where
-      go : (t : Bool) → eqb (writeNumber st (pairsOf f s n)) 0 ≡ t → P (cond t (wrote (pairsOf f s n) ∷ h) h)
-      go true e = p e
-      go false e = none
-  any-asked none st s (request.Read q) p = go (marks q)
-    where
-      go : (t : Bool) → P (cond t (sent ∷ h) h)
-      go true = p
-      go false = none
+  -- which deeds may follow a history: good ticks, writes that are accepted; any other
+  abbrev pub May : List Deed → Deed → Type 0
+  May h (took given r) = Good given r
+  May h (wrote ps) = writeOutcome (settingsAt h) ps ≡ Done
+  May h cleared = Unit {0}
+  May h forgot = Unit {0}
+  May h sent = Unit {0}
+  May h handed = Unit {0}
+  May h (heard bytes) = Unit {0}
+  May h fetched = Unit {0}
+  May h (loaded es) = (rs : List Event) × (es ≡ usedOf rs) × (any neverRecorded rs ≡ false)
 
-  module _ (cells perKm : ℕ) where
-    -- of what a call does where it is done
-    abbrev pub WhereDone : Call → Type 0
-    WhereDone (tick given r) = usableCount cells ≡ true → eqb (numberOf (judgedOf cells perKm (length given) r)) 0 ≡ true → P (took given r ∷ h)
-    WhereDone (frame s room) = P (asking (settingsAt h) s (requestOf s) h)
-    WhereDone handover = P (handed ∷ h)
-    WhereDone (offer bytes) = P (heard (take (takes (heardAt h) bytes) bytes) ∷ h)
-    WhereDone (fetch room) = P (fetched ∷ asking (settingsAt h) (heldAt h) (requestOf (heldAt h)) h)
-    WhereDone (save n) = Unit {0}
-    WhereDone (load area) = eqb (loadNumber area) 0 ≡ true → P (loaded (eventsIn area) ∷ h)
+  abbrev pub AllMay : List Deed → List Deed → Type 0
+  AllMay h [] = Unit {0}
+  AllMay h (d ∷ ds) = May (ds ++ h) d × AllMay h ds
 
-    pub any-call : P h → (c : Call) → WhereDone c → P (calling cells perKm h c)
+  -- ---- each call does what may be done
+
+  module _ (h : List Deed) where
+    abbrev b : Board
+    b = boardAt cells perKm h
+
+    asked-may : (s : List ℕ) (q : Request) → askedOutcome (b .pack) (b .hire) s q ≡ Done → AllMay h (askedDeeds s q)
+    unfolding askedDeeds askedOutcome boardAt
+    asked-may s (request.Refused refusal) e = tt
+    asked-may s request.ClearEvents e = (tt, tt)
+    asked-may s request.ClearStatistics e = (tt, tt)
+    asked-may s (request.Write f n) e = (e, tt)
+    asked-may s (request.Read q) e = go (marks q)
+      where
+        go : (t : Bool) → AllMay h (cond t (sent ∷ []) [])
+        go true = (tt, tt)
+        go false = tt
+
+    rows-may : (s : List ℕ) → first (frameRows b s) ≡ Done → AllMay h (askedDeeds s (requestOf s))
+    rows-may s e = asked-may s (requestOf s) (by-table b s ∙ e)
+
+    done-may : (c : Call) → usableCount cells ≡ true → first (shape c .rows b) ≡ Done → AllMay h (shape c .deeds b)
+    unfolding shape boardAt loadRows
+    done-may (tick given r) u e =
+        let (a, e₁) = off WrongCells _ _ e in
+        let (k, e₂) = off WrongCurrent _ _ e₁ in
+        let (i, e₃) = off NoInternal _ _ e₂ in
+        (record { count = u; cells-right = a; current-right = k; internal-right = i; pulses-right = off WrongPulses _ _ e₃ .0 }, tt)
+    done-may (frame s room) u e = rows-may s (off NoRoom _ _ e .1)
+    done-may handover u e = (tt, tt)
+    done-may (offer bytes) u e = (tt, tt)
+    done-may (fetch room) u e = (tt, rows-may (heldIn b) (off NoFrameHeld _ _ (off NoRoom _ _ e .1) .1))
+    done-may (save n) u e = tt
+    done-may (load area) u e =
+        let e₁ = off WrongArea _ _ e .1 in
+        let e₂ = off UsedAfterUnused _ _ e₁ .1 in
+        ((recordsIn area, refl, off NeverRecorded _ _ e₂ .0), tt)
+
+    pub allowed : (c : Call) → outcomeAt cells perKm h c ≡ Done → AllMay h (shape c .deeds b)
+    unfolding boardAt
+    allowed c e = let (u, z) = is-done b (shape c) e in done-may c u z
+
+  -- ---- so what every such deed keeps holds after all calls, where calls bring what they are said to bring, and their deeds have it
+
+  abbrev pub Each : (Deed → Type 0) → List Deed → Type 0
+  Each T [] = Unit {0}
+  Each T (d ∷ ds) = T d × Each T ds
+
+  abbrev pub Bring : (Call → Type 0) → List Call → Type 0
+  Bring Q [] = Unit {0}
+  Bring Q (c ∷ cs) = Q c × Bring Q cs
+
+  module _ (Q : Call → Type 0) (T : Deed → Type 0) (P : List Deed → Type 0) (brings : (h : List Deed) (c : Call) → Q c → P h
+      → Each T (shape c .deeds (boardAt cells perKm h))) (none : T fetched)
+      (keeps : (d : Deed) (k : List Deed) → May k d → T d → P k → P (d ∷ k)) where
+    all-kept : (h ds : List Deed) → AllMay h ds → Each T ds → P h → P (ds ++ h)
+    all-kept h [] m e p = p
+    all-kept h (d ∷ ds) m e p = keeps d (ds ++ h) (m .0) (e .0) (all-kept h ds (m .1) (e .1) p)
+
+    after-call : (h : List Deed) (c : Call) → Q c → P h → P (calling cells perKm h c)
     unfolding calling
-    any-call none (tick given r) p = go (usableCount cells) refl (eqb (numberOf (judgedOf cells perKm (length given) r)) 0) refl
+    after-call h c q p = go (isDone (outcomeAt cells perKm h c)) refl (letsGo (shape c) (outcomeAt cells perKm h c))
       where
-        go : (t : Bool) → usableCount cells ≡ t → (u : Bool) → eqb (numberOf (judgedOf cells perKm (length given) r)) 0 ≡ u → P (cond t (cond u (took given r ∷ h) h) h)
-        go true e true f = p e f
-        go true e false f = none
-        go false e u f = none
-    any-call none (frame s room) p = go (usableCount cells) (ltb room 259)
-      where
-        go : (t u : Bool) → P (cond t (cond u h (asking (settingsAt h) s (requestOf s) h)) h)
-        go true true = none
-        go true false = p
-        go false u = none
-    any-call none handover p = go (usableCount cells)
-      where
-        go : (t : Bool) → P (cond t (handed ∷ h) h)
-        go true = p
-        go false = none
-    any-call none (offer bytes) p = go (usableCount cells) (complete (heldAt h))
-      where
-        go : (t u : Bool) → P (cond t (cond u h (heard (take (takes (heardAt h) bytes) bytes) ∷ h)) h)
-        go true true = none
-        go true false = p
-        go false u = none
-    any-call none (fetch room) p = go (usableCount cells) (ltb room 259) (complete (heldAt h))
-      where
-        go : (t u v : Bool) → P (cond t (cond u h (cond v (fetched ∷ asking (settingsAt h) (heldAt h) (requestOf (heldAt h)) h) h)) h)
-        go true true v = none
-        go true false true = p
-        go true false false = none
-        go false u v = none
-    any-call none (save n) p = none
-    any-call none (load area) p = go (usableCount cells) (eqb (loadNumber area) 0) refl
-      where
-        go : (t u : Bool) → eqb (loadNumber area) 0 ≡ u → P (cond t (cond u (loaded (eventsIn area) ∷ h) h) h)
-        go true true e = p e
-        go true false e = none
-        go false u e = none
+        go : (t : Bool) → isDone (outcomeAt cells perKm h c) ≡ t → (u : Bool)
+            → P (cond t (shape c .deeds (boardAt cells perKm h) ++ h) (cond u (fetched ∷ h) h))
+        go true e u =
+            all-kept h (shape c .deeds (boardAt cells perKm h)) (allowed h c (done-is (outcomeAt cells perKm h c) e)) (brings h c q p) p
+        go false e true = keeps fetched h tt none p
+        go false e false = p
 
--- ---- of what only ticks and writes add to
+    pub after-typed : P [] → (cs : List Call) → Bring Q cs → P (deedsOf cells perKm cs)
+    unfolding deedsOf
+    after-typed p [] q = p
+    after-typed p (c ∷ cs) q = after-call (deedsOf cells perKm cs) c (q .0) (after-typed p cs (q .1))
 
-module _ (cells perKm : ℕ) (P : List Deed → Type 0) (same : (d : Deed) (k : List Deed) → row d .ticks ≡ [] → row d .writes ≡ [] → P k → P (d ∷ k)) where
-  -- it holds after an accepted tick, and after an accepted write of these bytes
-  abbrev pub AfterWrite : List Deed → List ℕ → Type 0
-  AfterWrite h s = (f : Form) (n : ℕ) → eqb (writeNumber (settingsAt h) (pairsOf f s n)) 0 ≡ true → P (wrote (pairsOf f s n) ∷ h)
-
-  abbrev pub AfterOne : List Deed → Call → Type 0
-  AfterOne h (tick given r) = usableCount cells ≡ true → eqb (numberOf (judgedOf cells perKm (length given) r)) 0 ≡ true → P (took given r ∷ h)
-  AfterOne h (frame s room) = AfterWrite h s
-  AfterOne h handover = Unit {0}
-  AfterOne h (offer bytes) = Unit {0}
-  AfterOne h (fetch room) = AfterWrite h (heldAt h)
-  AfterOne h (save n) = Unit {0}
-  AfterOne h (load area) = Unit {0}
-
-  asked-so : (h : List Deed) → P h → (s : List ℕ) → AfterWrite h s → (q : Request) → P (asking (settingsAt h) s q h)
-  asked-so h p s w q = any-asked P h p (settingsAt h) s q (go q)
+  pub after-calls : (P : List Deed → Type 0) → ((d : Deed) (k : List Deed) → May k d → P k → P (d ∷ k)) → P [] → (cs : List Call)
+      → P (deedsOf cells perKm cs)
+  after-calls P keeps p cs = after-typed (λ c. Unit {0}) (λ d. Unit {0}) P (λ h c q p. each (shape c .deeds (boardAt cells perKm h))) tt
+      (λ d k m e. keeps d k m) p cs (bring cs)
     where
-      go : (q : Request) → WhereAsked P h (settingsAt h) s q
-      go (request.Refused refusal) = tt
-      go request.ClearEvents = same forgot h refl refl p
-      go request.ClearStatistics = same cleared h refl refl p
-      go (request.Write f n) = w f n
-      go (request.Read q) = same sent h refl refl p
+      each : (ds : List Deed) → Each (λ d. Unit {0}) ds
+      each [] = tt
+      each (d ∷ ds) = (tt, each ds)
 
-  pub called-so : (h : List Deed) → P h → (c : Call) → AfterOne h c → P (calling cells perKm h c)
-  called-so h p c a = any-call P h cells perKm p c (go c a)
-    where
-      go : (c : Call) → AfterOne h c → WhereDone P h cells perKm c
-      go (tick given r) a = a
-      go (frame s room) a = asked-so h p s a (requestOf s)
-      go handover a = same handed h refl refl p
-      go (offer bytes) a = same (heard (take (takes (heardAt h) bytes) bytes)) h refl refl p
-      go (fetch room) a = same fetched (asking (settingsAt h) (heldAt h) (requestOf (heldAt h)) h) refl refl (asked-so h p (heldAt h) a (requestOf (heldAt h)))
-      go (save n) a = tt
-      go (load area) a = λ e. same (loaded (eventsIn area)) h refl refl p
+      bring : (cs : List Call) → Bring (λ c. Unit {0}) cs
+      bring [] = tt
+      bring (c ∷ cs) = (tt, bring cs)

@@ -1,27 +1,29 @@
 -- What an accepted write makes of the settings, register by register; so after every history of calls each setting is in its range
 -- and the three limits are in order. Assumes nothing.
 use mathlib.Core.Path.{_≡_, refl, sym, ap, _∙_, subst⁻¹}
-use mathlib.Core.Bool.{Bool, true, false, cond, and-false, false≢true}
+use mathlib.Core.Bool.{Bool, true, false, cond}
 use mathlib.Core.List.{List, [], _∷_, _++_, map}
-use Prim.Native.Nat.{ℕ, _≤_}
-use borrow.Author.Tests.{leb-true}
-use lib.Dec.{eqb, leb}
-use Rattle.laws.specs.History.{never, since, each, headOr, any, newest}
+use Prim.Native.Nat.{ℕ, _≤_, _<_}
+use lib.Signed.{mag}
+use native.Mathlib.Omega.{arith}
+use Rattle.refusals.specs.declared.Outcome.the-variants.{Done}
+use Rattle.refusals.specs.Refusals.{first}
+use Rattle.laws.specs.History.{never, since, each, headOr, newest}
 use Rattle.settings.specs.declared.Settings.{Settings}
-use Rattle.settings.specs.declared.Verdict.the-variants.{Taken, OutOfRange, OutOfOrder}
-use Rattle.settings.specs.declared.Draft.{Draft}
 use Rattle.settings.specs.Settings as settings
-use Rattle.signed.specs.Signed.{fromBits}
-use Rattle.requests.specs.declared.Pair.{Pair}
-use Rattle.requests.specs.declared.Request.{Request}
-use Rattle.requests.specs.declared.Request.the-variants as request
-use Rattle.requests.specs.Requests.{requestOf, pairsOf, draftedOf}
-use Rattle.board.specs.Calls.{Call, tick, frame, handover, offer, fetch, save, load}
-use Rattle.board.specs.Account.{Deed, took, wrote, cleared, forgot, sent, handed, heard, fetched, loaded, row, writing, names, lastOf, lastWritten, settingsAt, heldAt, asking, calling, deedsOf}
-use Rattle.board.proofs.Account.Deeds.{WhereAsked, any-asked, WhereDone, any-call}
+use Rattle.settings.proofs.Drafts.{Held, bits-held, done-fits, between}
+use Rattle.signed.specs.Signed.{bitsOf, fromBits}
+use Rattle.writes.specs.declared.Pair.{Pair}
+use Rattle.writes.specs.Writes.{names, lastOf, draftedOf}
+use Rattle.writes.proofs.LastPut.{drafted-settings}
+use Rattle.board.specs.Calls.{Call}
+use Rattle.board.specs.Account.{Deed, took, wrote, cleared, forgot, sent, handed, heard, fetched, loaded, row, writing, lastWritten}
+use Rattle.board.specs.Account.{settingsAt, deedsOf}
+use Rattle.board.proofs.Account.Deeds.{May, after-calls}
 
 -- what pairs give a register, after older ones
-pub after-older : {R : Type 0} (factory : R) (register : ℕ) (value : ℕ → R) (ps older : List Pair) → lastOf factory register value (ps ++ older) ≡ lastOf (lastOf factory register value older) register value ps
+pub after-older : {R : Type 0} (factory : R) (register : ℕ) (value : ℕ → R) (ps older : List Pair)
+    → lastOf factory register value (ps ++ older) ≡ lastOf (lastOf factory register value older) register value ps
 after-older factory register value [] older = refl
 after-older factory register value (p ∷ ps) older = go (names register p) (after-older factory register value ps older)
   where
@@ -31,45 +33,52 @@ after-older factory register value (p ∷ ps) older = go (names register p) (aft
     go true e = refl
     go false e = e
 
--- a register that is put one by one, as pairs name it
-module _ {R : Type 0} (field : Settings → R) (register : ℕ) (value : ℕ → R)
-    (one : (s : Settings) (at v : ℕ) → field (settings.withOf s at v) ≡ cond (eqb at register) (value v) (field s)) where
-  drafted : (d : Draft) (ps : List Pair) → field (draftedOf d ps .drafted) ≡ lastOf (field (d .drafted)) register value ps
-  unfolding draftedOf settings.putOf
-  drafted d [] = refl
-  drafted d (p ∷ ps) = one (draftedOf d ps .drafted) (p .at) (p .value) ∙ go (names register p) (drafted d ps)
-    where
-      go : (t : Bool) → field (draftedOf d ps .drafted) ≡ lastOf (field (d .drafted)) register value ps
-          → cond t (value (p .value)) (field (draftedOf d ps .drafted)) ≡ headOr (field (d .drafted)) (map (λ p. value (p .value)) (cond t (p ∷ []) (newest (names register) ps)))
-      go true e = refl
-      go false e = e
-
-  -- the last accepted write that names it
-  pub covered : (factory : R) (st : Settings) (ps : List Pair) (h : List Deed) → field st ≡ lastWritten factory register value h
-      → lastWritten factory register value (wrote ps ∷ h) ≡ field (draftedOf (settings.draftOf st) ps .drafted)
-  covered factory st ps h e =
-      after-older factory register value ps (each writing (since never h))
-      ∙ ap (λ (older : R). lastOf older register value ps) (sym e)
-      ∙ sym (drafted (settings.draftOf st) ps)
+-- every one that was written fits its bits, 320 too
+held : (h : List Deed) → Held (settingsAt h)
+unfolding settingsAt
+held h = go (newest (names 320) (each writing (since never h)))
+  where
+    go : (ps : List Pair) → mag (headOr (settings.factory .r320) (map (λ p. fromBits (p .value)) ps)) < 32768
+    go [] = omega arith
+    go (p ∷ ps) = bits-held (p .value)
 
 -- the settings after an accepted write are those of its draft
-pub written : (ps : List Pair) (h : List Deed) → settingsAt (wrote ps ∷ h) ≡ draftedOf (settings.draftOf (settingsAt h)) ps .drafted
-unfolding settingsAt settings.withOf
-written ps h =
-    let st = settingsAt h in
-    λ i. record {
-      r301 = covered (λ s. s .r301) 301 (λ v. v) (λ s at v. refl) (settings.factory .r301) st ps h refl i;
-      r303 = covered (λ s. s .r303) 303 (λ v. v) (λ s at v. refl) (settings.factory .r303) st ps h refl i;
-      r308 = covered (λ s. s .r308) 308 (λ v. v) (λ s at v. refl) (settings.factory .r308) st ps h refl i;
-      r315 = covered (λ s. s .r315) 315 (λ v. v) (λ s at v. refl) (settings.factory .r315) st ps h refl i;
-      r316 = covered (λ s. s .r316) 316 (λ v. v) (λ s at v. refl) (settings.factory .r316) st ps h refl i;
-      r317 = covered (λ s. s .r317) 317 (λ v. v) (λ s at v. refl) (settings.factory .r317) st ps h refl i;
-      r318 = covered (λ s. s .r318) 318 (λ v. v) (λ s at v. refl) (settings.factory .r318) st ps h refl i;
-      r319 = covered (λ s. s .r319) 319 (λ v. v) (λ s at v. refl) (settings.factory .r319) st ps h refl i;
-      r320 = covered (λ s. s .r320) 320 fromBits (λ s at v. refl) (settings.factory .r320) st ps h refl i;
-      r332 = covered (λ s. s .r332) 332 (λ v. v) (λ s at v. refl) (settings.factory .r332) st ps h refl i;
-      r334 = covered (λ s. s .r334) 334 (λ v. v) (λ s at v. refl) (settings.factory .r334) st ps h refl i;
-      r335 = covered (λ s. s .r335) 335 (λ v. v) (λ s at v. refl) (settings.factory .r335) st ps h refl i;
+pub written : (ps : List Pair) (h : List Deed)
+    → settingsAt (wrote ps ∷ h) ≡ settings.settingsIn (draftedOf (settings.draftOf (settingsAt h)) ps)
+unfolding settingsAt
+written ps h = all ∙ sym (drafted-settings (settingsAt h) ps (held h))
+  where
+    one : {R : Type 0} (factory : R) (register : ℕ) (value : ℕ → R)
+        → lastWritten factory register value (wrote ps ∷ h) ≡ lastOf (lastWritten factory register value h) register value ps
+    one factory register value = after-older factory register value ps (each writing (since never h))
+
+    all : settingsAt (wrote ps ∷ h) ≡ record {
+      r301 = lastOf (settingsAt h .r301) 301 (λ v. v) ps;
+      r303 = lastOf (settingsAt h .r303) 303 (λ v. v) ps;
+      r308 = lastOf (settingsAt h .r308) 308 (λ v. v) ps;
+      r315 = lastOf (settingsAt h .r315) 315 (λ v. v) ps;
+      r316 = lastOf (settingsAt h .r316) 316 (λ v. v) ps;
+      r317 = lastOf (settingsAt h .r317) 317 (λ v. v) ps;
+      r318 = lastOf (settingsAt h .r318) 318 (λ v. v) ps;
+      r319 = lastOf (settingsAt h .r319) 319 (λ v. v) ps;
+      r320 = lastOf (settingsAt h .r320) 320 fromBits ps;
+      r332 = lastOf (settingsAt h .r332) 332 (λ v. v) ps;
+      r334 = lastOf (settingsAt h .r334) 334 (λ v. v) ps;
+      r335 = lastOf (settingsAt h .r335) 335 (λ v. v) ps;
+    }
+    all = λ i. record {
+      r301 = one (settings.factory .r301) 301 (λ v. v) i;
+      r303 = one (settings.factory .r303) 303 (λ v. v) i;
+      r308 = one (settings.factory .r308) 308 (λ v. v) i;
+      r315 = one (settings.factory .r315) 315 (λ v. v) i;
+      r316 = one (settings.factory .r316) 316 (λ v. v) i;
+      r317 = one (settings.factory .r317) 317 (λ v. v) i;
+      r318 = one (settings.factory .r318) 318 (λ v. v) i;
+      r319 = one (settings.factory .r319) 319 (λ v. v) i;
+      r320 = one (settings.factory .r320) 320 fromBits i;
+      r332 = one (settings.factory .r332) 332 (λ v. v) i;
+      r334 = one (settings.factory .r334) 334 (λ v. v) i;
+      r335 = one (settings.factory .r335) 335 (λ v. v) i;
     }
 
 -- a deed that is no write leaves them as they were
@@ -89,54 +98,25 @@ unwritten (loaded es) h e = refl
 abbrev pub Fits : Settings → Type 0
 Fits s = (settings.inRange s ≡ true) × (settings.ordered s ≡ true)
 
--- a write whose number is 0 fits
-taken : (d : Draft) → eqb (settings.numberOf (settings.verdictOf d)) 0 ≡ true → Fits (d .drafted)
-unfolding settings.numberOf settings.verdictOf settings.judgedOf
-taken d = go (any (λ stray. stray) (d .strays)) (settings.inRange (d .drafted)) (settings.ordered (d .drafted))
-  where
-    go : (a b c : Bool) → eqb (settings.numberOf (cond a OutOfRange (cond b (cond c Taken OutOfOrder) OutOfRange))) 0 ≡ true → (b ≡ true) × (c ≡ true)
-    go true b c e = absurd (false≢true e)
-    go false true true e = (refl, refl)
-    go false true false e = absurd (false≢true e)
-    go false false c e = absurd (false≢true e)
-
-module _ (h : List Deed) (fits : Fits (settingsAt h)) where
-  -- so does what any request does
-  asked : (s : List ℕ) (q : Request) → Fits (settingsAt (asking (settingsAt h) s q h))
-  unfolding settingsAt
-  asked s q = any-asked (λ k. Fits (settingsAt k)) h fits (settingsAt h) s q (go q)
-    where
-      go : (q : Request) → WhereAsked (λ k. Fits (settingsAt k)) h (settingsAt h) s q
-      go (request.Refused refusal) = tt
-      go request.ClearEvents = fits
-      go request.ClearStatistics = fits
-      go (request.Write f n) = λ e. subst⁻¹ Fits (written (pairsOf f s n) h) (taken (draftedOf (settings.draftOf (settingsAt h)) (pairsOf f s n)) e)
-      go (request.Read q) = fits
-
-  -- and any call
-  called : (cells perKm : ℕ) (c : Call) → Fits (settingsAt (calling cells perKm h c))
-  unfolding settingsAt
-  called cells perKm c = any-call (λ k. Fits (settingsAt k)) h cells perKm fits c (go c)
-    where
-      go : (c : Call) → WhereDone (λ k. Fits (settingsAt k)) h cells perKm c
-      go (tick given r) = λ e f. fits
-      go (frame s room) = asked s (requestOf s)
-      go handover = fits
-      go (offer bytes) = fits
-      go (fetch room) = asked (heldAt h) (requestOf (heldAt h))
-      go (save n) = tt
-      go (load area) = λ e. fits
+-- so every deed leaves them fitting, and all calls do
+pub kept : (cells perKm : ℕ) (d : Deed) (h : List Deed) → May cells perKm h d → Fits (settingsAt h) → Fits (settingsAt (d ∷ h))
+unfolding settingsAt
+kept cells perKm (took given r) h m fits = fits
+kept cells perKm (wrote ps) h m fits = subst⁻¹ Fits (written ps h) (done-fits (draftedOf (settings.draftOf (settingsAt h)) ps) m)
+kept cells perKm cleared h m fits = fits
+kept cells perKm forgot h m fits = fits
+kept cells perKm sent h m fits = fits
+kept cells perKm handed h m fits = fits
+kept cells perKm (heard bytes) h m fits = fits
+kept cells perKm fetched h m fits = fits
+kept cells perKm (loaded es) h m fits = fits
 
 pub ranges : (cells perKm : ℕ) (cs : List Call) → Fits (settingsAt (deedsOf cells perKm cs))
-unfolding deedsOf settingsAt settings.inRange settings.noneBelow settings.ordered
-ranges cells perKm [] = (refl, refl)
-ranges cells perKm (c ∷ cs) = called (deedsOf cells perKm cs) (ranges cells perKm cs) cells perKm c
+unfolding settingsAt settings.inRange settings.isOut settings.fits settings.registers settings.valuesOf settings.registerOf
+    settings.settingsOf settings.ordered bitsOf fromBits
+ranges cells perKm cs = after-calls cells perKm (λ k. Fits (settingsAt k)) (kept cells perKm) (refl, refl) cs
 
 -- so a wait is never 0
 pub wait-some : (s : Settings) → Fits s → 1 ≤ s .r332
-unfolding settings.inRange settings.noneBelow
-wait-some s fits = go (leb 1 (s .r332)) refl
-  where
-    go : (t : Bool) → leb 1 (s .r332) ≡ t → 1 ≤ s .r332
-    go true e = leb-true 1 (s .r332) e
-    go false e = let z : settings.inRange s ≡ false = simp (e, and-false) in absurd (false≢true (sym z ∙ fits .0))
+unfolding settings.registerOf
+wait-some s fits = between s (fits .0) 332 (omega arith) (omega arith) refl .0

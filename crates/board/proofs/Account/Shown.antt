@@ -21,7 +21,8 @@ use Rattle.guard.specs.declared.Condition.{Condition}
 use Rattle.guard.specs.Table.{is, namesCharge, namesDischarge, chargeOff, dischargeOff}
 use Rattle.guard.proofs.Switches.{charge-named, discharge-named, charge-unnamed, discharge-unnamed}
 use Rattle.readings.specs.declared.Readings.{Readings}
-use Rattle.requests.specs.declared.Pair.{Pair}
+use Rattle.writes.specs.declared.Pair.{Pair}
+use Rattle.writes.specs.Writes.{names, lastOf}
 use Rattle.settings.specs.Settings as settings
 use Rattle.signed.specs.Signed.{bitsOf, fromBits}
 use Rattle.statistics.specs.Statistics.{distanceOf}
@@ -31,11 +32,14 @@ use Rattle.board.specs.Start.{startBoard}
 use Rattle.board.specs.Calls.{Call}
 use Rattle.board.specs.Behaviour.{afterIn, board}
 use Rattle.board.specs.Demands.{deeds}
-use Rattle.board.specs.Account.{Deed, took, wrote, cleared, forgot, sent, handed, heard, fetched, loaded, row, forgets, writing, names, lastOf, settingsAt, latchedAt, chargeAt, dischargeAt, recordedNow, loading, keptSince, newSince, eventsAt, pulsesAt, statisticsAt, distanceAt, boardAt}
+use Rattle.board.specs.Account.{Deed, took, wrote, cleared, forgot, sent, handed, heard, fetched, loaded, row, forgets, writing}
+use Rattle.board.specs.Account.{settingsAt, latchedAt, chargeAt, dischargeAt, recordedNow, loading, keptSince, newSince, eventsAt}
+use Rattle.board.specs.Account.{pulsesAt, statisticsAt, distanceAt, boardAt}
 use Rattle.board.proofs.Account.Settings.{Fits, ranges}
 use Rattle.board.proofs.Demands.Demand2.{account}
 
--- ---- events: the latest 62 of those loaded and recorded since they were forgotten; of these, the ones recorded since the last 0x11 or load; oldest
+-- ---- events: the latest 62 of those loaded and recorded since they were forgotten; of these, the ones recorded since the last 0x11 or
+-- load; oldest
 -- first
 
 pub kept-shown : (h : List Deed) → keptOf (eventsAt h) ≡ reverse (take capacity (keptSince h))
@@ -72,11 +76,13 @@ pub distance-shown : (perKm : ℕ) (h : List Deed) → perKm ≤ 65535 → dista
 unfolding distanceAt statisticsAt distanceOf
 distance-shown perKm h held = go (eqb perKm 0) refl
   where
-    go : (t : Bool) → eqb perKm 0 ≡ t → cond t 0 (min 4294967295 (100 * min 281474976710656 (pulsesAt h) / perKm)) ≡ cond t 0 (min 4294967295 (100 * pulsesAt h / perKm))
+    go : (t : Bool) → eqb perKm 0 ≡ t
+        → cond t 0 (min 4294967295 (100 * min 281474976710656 (pulsesAt h) / perKm)) ≡ cond t 0 (min 4294967295 (100 * pulsesAt h / perKm))
     go true e = refl
     go false e = stopped (pulsesAt h) perKm (omega (arith, eqb-false)) held
 
--- ---- settings: a register reads what the last accepted write that names it gave it, the later of two values in one write, else its factory value
+-- ---- settings: a register reads what the last accepted write that names it gave it, the later of two values in one write, else its
+-- factory value
 
 abbrev pub Reads : ℕ → (ℕ → ℕ) → List Deed → Type 0
 Reads register shown h =
@@ -88,17 +94,24 @@ pub same-bits : (v : ℕ) → v < 65536 → bitsOf (fromBits v) ≡ v
 unfolding bitsOf fromBits
 same-bits v h = ofZ-toZ w16 v (record { fits = h })
 
-pub reads-back : (h : List Deed) → Reads 301 (λ v. v) h × Reads 303 (λ v. v) h × Reads 308 (λ v. v) h × Reads 315 (λ v. v) h × Reads 316 (λ v. v) h × Reads 317 (λ v. v) h × Reads 318 (λ v. v) h × Reads 319 (λ v. v) h × Reads 320 (λ v. bitsOf (fromBits v)) h × Reads 332 (λ v. v) h × Reads 334 (λ v. v) h × Reads 335 (λ v. v) h
+pub reads-back : (h : List Deed)
+    → Reads 301 (λ v. v) h × Reads 303 (λ v. v) h × Reads 308 (λ v. v) h × Reads 315 (λ v. v) h × Reads 316 (λ v. v) h
+    × Reads 317 (λ v. v) h × Reads 318 (λ v. v) h × Reads 319 (λ v. v) h × Reads 320 (λ v. bitsOf (fromBits v)) h × Reads 332 (λ v. v) h
+    × Reads 334 (λ v. v) h × Reads 335 (λ v. v) h
 unfolding settings.registerOf settingsAt
-reads-back h = (refl, refl, refl, refl, refl, refl, refl, refl, inside (newest (names 320) (each writing (since never h))), refl, refl, refl)
+reads-back h =
+    (refl, refl, refl, refl, refl, refl, refl, refl, inside (newest (names 320) (each writing (since never h))), refl, refl, refl)
   where
-    inside : (ps : List Pair) → bitsOf (headOr (settings.factory .r320) (map (λ p. fromBits (p .value)) ps)) ≡ headOr (bitsOf (settings.factory .r320)) (map (λ p. bitsOf (fromBits (p .value))) ps)
+    inside : (ps : List Pair)
+        → bitsOf (headOr (settings.factory .r320) (map (λ p. fromBits (p .value)) ps))
+        ≡ headOr (bitsOf (settings.factory .r320)) (map (λ p. bitsOf (fromBits (p .value))) ps)
     inside [] = refl
     inside (p ∷ ps) = refl
 
 -- ---- switches: as the table says at every tick
 
-pub charge-at-a-tick : (cells : List ℕ) (r : Readings) (h : List Deed) → chargeAt (took cells r ∷ h) ≡ (r .charger && not (chargeOff (latchedAt (took cells r ∷ h))))
+pub charge-at-a-tick : (cells : List ℕ) (r : Readings) (h : List Deed)
+    → chargeAt (took cells r ∷ h) ≡ (r .charger && not (chargeOff (latchedAt (took cells r ∷ h))))
 unfolding chargeAt
 charge-at-a-tick cells r h = refl
 
@@ -108,20 +121,24 @@ unfolding dischargeAt
 discharge-at-a-tick cells r h = refl
 
 -- with nothing latched that names it
-pub charge-on : (cells : List ℕ) (r : Readings) (h : List Deed) → ((c : Condition) → namesCharge c ≡ true → is (latchedAt (took cells r ∷ h)) c ≡ false) → chargeAt (took cells r ∷ h) ≡ r .charger
+pub charge-on : (cells : List ℕ) (r : Readings) (h : List Deed)
+    → ((c : Condition) → namesCharge c ≡ true → is (latchedAt (took cells r ∷ h)) c ≡ false) → chargeAt (took cells r ∷ h) ≡ r .charger
 charge-on cells r h off =
     charge-at-a-tick cells r h ∙ ap (λ t. r .charger && not t) (charge-unnamed (latchedAt (took cells r ∷ h)) off) ∙ and-true (r .charger)
 
-pub discharge-on : (cells : List ℕ) (r : Readings) (h : List Deed) → ((c : Condition) → namesDischarge c ≡ true → is (latchedAt (took cells r ∷ h)) c ≡ false)
+pub discharge-on : (cells : List ℕ) (r : Readings) (h : List Deed)
+    → ((c : Condition) → namesDischarge c ≡ true → is (latchedAt (took cells r ∷ h)) c ≡ false)
     → dischargeAt (took cells r ∷ h) ≡ (eqb (settingsAt h .r334) 0 || r .ignition)
 discharge-on cells r h off =
-    discharge-at-a-tick cells r h ∙ ap (λ t. not t && (eqb (settingsAt h .r334) 0 || r .ignition)) (discharge-unnamed (latchedAt (took cells r ∷ h)) off)
+    discharge-at-a-tick cells r h
+    ∙ ap (λ t. not t && (eqb (settingsAt h .r334) 0 || r .ignition)) (discharge-unnamed (latchedAt (took cells r ∷ h)) off)
 
 -- with a condition latched, each switch that it names is off, at every moment
 pub charge-off : (h : List Deed) (c : Condition) → is (latchedAt h) c ≡ true → namesCharge c ≡ true → chargeAt h ≡ false
 unfolding chargeAt latchedAt
 charge-off [] c p q = refl
-charge-off (took cells r ∷ h) c p q = ap (λ t. r .charger && not t) (charge-named (latchedAt (took cells r ∷ h)) c p q) ∙ and-false (r .charger)
+charge-off (took cells r ∷ h) c p q =
+    ap (λ t. r .charger && not t) (charge-named (latchedAt (took cells r ∷ h)) c p q) ∙ and-false (r .charger)
 charge-off (wrote ps ∷ h) c p q = charge-off h c p q
 charge-off (cleared ∷ h) c p q = charge-off h c p q
 charge-off (forgot ∷ h) c p q = charge-off h c p q
@@ -134,7 +151,8 @@ charge-off (loaded es ∷ h) c p q = charge-off h c p q
 pub discharge-off : (h : List Deed) (c : Condition) → is (latchedAt h) c ≡ true → namesDischarge c ≡ true → dischargeAt h ≡ false
 unfolding dischargeAt latchedAt
 discharge-off [] c p q = refl
-discharge-off (took cells r ∷ h) c p q = ap (λ t. not t && (eqb (settingsAt h .r334) 0 || r .ignition)) (discharge-named (latchedAt (took cells r ∷ h)) c p q)
+discharge-off (took cells r ∷ h) c p q =
+    ap (λ t. not t && (eqb (settingsAt h .r334) 0 || r .ignition)) (discharge-named (latchedAt (took cells r ∷ h)) c p q)
 discharge-off (wrote ps ∷ h) c p q = discharge-off h c p q
 discharge-off (cleared ∷ h) c p q = discharge-off h c p q
 discharge-off (forgot ∷ h) c p q = discharge-off h c p q
@@ -156,11 +174,13 @@ module _ (cells perKm : ℕ) (cs : List Call) where
 
   pub kept-after : keptOf (after .hire .events) ≡ reverse (take capacity (keptSince (deeds cells perKm cs)))
   unfolding boardAt
-  kept-after = holds-after (λ b. keptOf (b .hire .events) ≡ reverse (take capacity (keptSince (deeds cells perKm cs)))) (kept-shown (deeds cells perKm cs))
+  kept-after = holds-after (λ b. keptOf (b .hire .events) ≡ reverse (take capacity (keptSince (deeds cells perKm cs))))
+      (kept-shown (deeds cells perKm cs))
 
   pub new-after : newOf (after .hire .events) ≡ reverse (take capacity (newSince (deeds cells perKm cs)))
   unfolding boardAt
-  new-after = holds-after (λ b. newOf (b .hire .events) ≡ reverse (take capacity (newSince (deeds cells perKm cs)))) (new-shown (deeds cells perKm cs))
+  new-after = holds-after (λ b. newOf (b .hire .events) ≡ reverse (take capacity (newSince (deeds cells perKm cs))))
+      (new-shown (deeds cells perKm cs))
 
   pub ranges-after : Fits (after .pack .settings)
   unfolding boardAt
@@ -168,8 +188,11 @@ module _ (cells perKm : ℕ) (cs : List Call) where
 
   pub charge-off-after : (c : Condition) → is (after .pack .guard .latched) c ≡ true → namesCharge c ≡ true → after .hire .charge ≡ false
   unfolding boardAt
-  charge-off-after c = holds-after (λ b. is (b .pack .guard .latched) c ≡ true → namesCharge c ≡ true → b .hire .charge ≡ false) (charge-off (deeds cells perKm cs) c)
+  charge-off-after c = holds-after (λ b. is (b .pack .guard .latched) c ≡ true → namesCharge c ≡ true → b .hire .charge ≡ false)
+      (charge-off (deeds cells perKm cs) c)
 
-  pub discharge-off-after : (c : Condition) → is (after .pack .guard .latched) c ≡ true → namesDischarge c ≡ true → after .hire .discharge ≡ false
+  pub discharge-off-after : (c : Condition) → is (after .pack .guard .latched) c ≡ true → namesDischarge c ≡ true
+      → after .hire .discharge ≡ false
   unfolding boardAt
-  discharge-off-after c = holds-after (λ b. is (b .pack .guard .latched) c ≡ true → namesDischarge c ≡ true → b .hire .discharge ≡ false) (discharge-off (deeds cells perKm cs) c)
+  discharge-off-after c = holds-after (λ b. is (b .pack .guard .latched) c ≡ true → namesDischarge c ≡ true → b .hire .discharge ≡ false)
+      (discharge-off (deeds cells perKm cs) c)

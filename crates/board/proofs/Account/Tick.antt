@@ -21,7 +21,7 @@ use Rattle.guard.specs.declared.Condition.{Condition}
 use Rattle.guard.specs.declared.Condition.the-variants.{UV, OV, OT, DOC, COC, ROC, LT}
 use Rattle.guard.specs.declared.Guard.{Guard}
 use Rattle.guard.specs.Guard.{guardOf}
-use Rattle.guard.specs.Table.{is, eventOf}
+use Rattle.guard.specs.Table.{is}
 use Rattle.guard.proofs.Account as guard
 use Rattle.readings.specs.declared.Readings.{Readings}
 use Rattle.readings.specs.Readings.{connected}
@@ -30,8 +30,11 @@ use Rattle.statistics.specs.declared.Temperatures.{Temperatures}
 use Rattle.statistics.specs.Statistics.{hundreds, countOf, countsOf, withExternal, riddenOf, countedOf}
 use Rattle.pack.specs.declared.Clock.{Clock}
 use Rattle.pack.specs.Pack.{laterOf}
-use Rattle.hire.specs.Tick.{chargerEvent}
-use Rattle.board.specs.Account.{Deed, took, clears, hands, ticking, momentOf, momentsAt, settingsAt, countAt, secondsAt, clockAt, latchedAt, waitsAt, rememberedAt, windowAt, chargerAt, statusAt, someEvent, numbersOf, recordedNow, forgets, loading, keptSince, newSince, eventsAt, latchings, entering, externals, coldestOf, hottestOf, temperaturesOf, pulsesAt, statisticsAt}
+use Rattle.hire.specs.Tick.{eventsOf, recordedOf, recordedAll}
+use Rattle.board.specs.Account.{Deed, took, clears, hands, ticking, momentOf, momentsAt, settingsAt, countAt, secondsAt, clockAt}
+use Rattle.board.specs.Account.{latchedAt, waitsAt, rememberedAt, windowAt, chargerAt, statusAt, someEvent, newestFirst, numbersOf}
+use Rattle.board.specs.Account.{recordedNow, forgets, loading, keptSince, newSince, eventsAt, latchings, entering, externals}
+use Rattle.board.specs.Account.{coldestOf, hottestOf, temperaturesOf, pulsesAt, statisticsAt}
 
 -- ---- time
 clock-same : {a b c d : ℕ} → a ≡ b → c ≡ d → _≡_ {A = Clock} (record { seconds = a; tenths = c }) (record { seconds = b; tenths = d })
@@ -70,53 +73,47 @@ pub window-next : (cells : List ℕ) (r : Readings) (h : List Deed) → windowAt
 unfolding windowAt
 window-next cells r h = sym (pushed 9 0 (r .pulses) (map (λ t. t .1 .pulses) (each ticking (since hands h))))
 
--- ---- events: one after the other, each behind its test
-abbrev eventsOf : List Event → List Event → Events
-eventsOf ks us = record { list = latest capacity noEvent ks; kept = min capacity (length ks); unsent = min capacity (length us) }
+-- ---- events: one after the other, those that there are
+abbrev listed : List Event → List Event → Events
+listed ks us = record { list = latest capacity noEvent ks; kept = min capacity (length ks); unsent = min capacity (length us) }
 
 module _ (seconds : ℕ) where
   abbrev add : Events → ℕ → Events
   add e number = addOf e seconds number
 
-  abbrev pub noted : Events → ℕ → Events
-  noted e number = cond (eqb number 0) e (add e number)
-
-  added : (ns : List ℕ) (ks us : List Event) → eventsOf (map (eventAt seconds) ns ++ ks) (map (eventAt seconds) ns ++ us) ≡ pour add (eventsOf ks us) ns
+  added : (ns : List ℕ) (ks us : List Event)
+      → listed (map (eventAt seconds) ns ++ ks) (map (eventAt seconds) ns ++ us) ≡ pour add (listed ks us) ns
   unfolding addOf
   added [] ks us = refl
-  added (n ∷ ns) ks us = one (map (eventAt seconds) ns ++ ks) (map (eventAt seconds) ns ++ us) ∙ ap (λ e. add e n) (added ns ks us)
+  added (n ∷ ns) ks us = next (map (eventAt seconds) ns ++ ks) (map (eventAt seconds) ns ++ us) ∙ ap (λ e. add e n) (added ns ks us)
     where
-      one : (ks us : List Event) → eventsOf (eventAt seconds n ∷ ks) (eventAt seconds n ∷ us) ≡ addOf (eventsOf ks us) seconds n
-      one ks us =
+      next : (ks us : List Event) → listed (eventAt seconds n ∷ ks) (eventAt seconds n ∷ us) ≡ addOf (listed ks us) seconds n
+      next ks us =
           let up : (m : ℕ) → min capacity (suc m) ≡ min capacity (min capacity m + 1) = λ m. omega arith in
-          λ i. record { list = sym (pushed (capacity - 1) noEvent (eventAt seconds n) ks) i; kept = up (length ks) i; unsent = up (length us) i }
+          λ i. record {
+            list = sym (pushed (capacity - 1) noEvent (eventAt seconds n) ks) i;
+            kept = up (length ks) i;
+            unsent = up (length us) i;
+          }
 
-  -- rigid, so that the lists are inferred
-  record Noted (e : Events) (ns : List ℕ) (e₁ : Events) : Type 0 where
-    is : e₁ ≡ pour add e ns
-
-  law : (e : Events) (n : ℕ) → Noted e (someEvent n) (noted e n)
-  law e n = go (eqb n 0)
+  one : (e : Events) (n : ℕ) → recordedOf seconds e n ≡ pour add e (someEvent n)
+  one e n = go (eqb n 0)
     where
-      go : (t : Bool) → Noted e (cond t [] (n ∷ [])) (cond t e (add e n))
-      go true = record { is = refl }
-      go false = record { is = refl }
+      go : (t : Bool) → cond t e (add e n) ≡ pour add e (cond t [] (n ∷ []))
+      go true = refl
+      go false = refl
 
-  then : {e e₁ e₂ : Events} {ns ms : List ℕ} → Noted e ns e₁ → Noted e₁ ms e₂ → Noted e (ms ++ ns) e₂
-  then {e} {e₁} {e₂} {ns} {ms} p q = record { is = q .is ∙ ap (λ (k : Events). pour add k ms) (p .is) ∙ sym (pour-append add e ms ns) }
-
-  -- what a tick notes: the charger's event, then the conditions in the table's order
-  abbrev pub tickNoted : Conditions → Conditions → Bool → Bool → Events → Events
-  tickNoted before after was now e =
-      noted (noted (noted (noted (noted (noted (noted (noted e (chargerEvent was now)) (eventOf before after UV)) (eventOf before after OV)) (eventOf before after OT)) (eventOf before after DOC)) (eventOf before after COC)) (eventOf before after ROC)) (eventOf before after LT)
-
-  chain : (before after : Conditions) (was now : Bool) (e : Events) → tickNoted before after was now e ≡ pour add e (numbersOf before after was now)
-  chain before after was now e =
-      let next : (e : Events) (c : Condition) → Noted e (someEvent (eventOf before after c)) (noted e (eventOf before after c)) = λ e c. law e (eventOf before after c) in
-      (then (law e (chargerEvent was now)) (then (next _ UV) (then (next _ OV) (then (next _ OT) (then (next _ DOC) (then (next _ COC) (then (next _ ROC) (next _ LT)))))))) .is
+  all : (ns : List ℕ) (e : Events) → recordedAll seconds e ns ≡ pour add e (newestFirst ns)
+  unfolding recordedAll
+  all [] e = refl
+  all (n ∷ ns) e =
+      all ns (recordedOf seconds e n) ∙ ap (λ (k : Events). pour add k (newestFirst ns)) (one e n)
+      ∙ sym (pour-append add e (newestFirst ns) (someEvent n))
 
 pub events-next : (cells : List ℕ) (r : Readings) (h : List Deed)
-    → eventsAt (took cells r ∷ h) ≡ tickNoted (secondsAt (took cells r ∷ h)) (latchedAt h) (latchedAt (took cells r ∷ h)) (chargerAt h) (r .charger) (eventsAt h)
+    → eventsAt (took cells r ∷ h)
+    ≡ recordedAll (secondsAt (took cells r ∷ h)) (eventsAt h)
+    (eventsOf (chargerAt h) (r .charger) (latchedAt h) (latchedAt (took cells r ∷ h)))
 unfolding eventsAt
 events-next cells r h =
     let s = secondsAt (took cells r ∷ h) in
@@ -124,10 +121,10 @@ events-next cells r h =
     let es = map (eventAt s) ns in
     let recorded = each recordedNow (since forgets h) in
     let before = reverse (loading (from forgets h)) in
-    ap (λ (es : List Event). eventsOf (es ++ recorded ++ before) (es ++ newSince h)) (append-nil es)
-    ∙ ap (λ (ks : List Event). eventsOf ks (es ++ newSince h)) (append-assoc es recorded before)
+    ap (λ (es : List Event). listed (es ++ recorded ++ before) (es ++ newSince h)) (append-nil es)
+    ∙ ap (λ (ks : List Event). listed ks (es ++ newSince h)) (append-assoc es recorded before)
     ∙ added s ns (keptSince h) (newSince h)
-    ∙ sym (chain s (latchedAt h) (latchedAt (took cells r ∷ h)) (chargerAt h) (r .charger) (eventsAt h))
+    ∙ sym (all s (eventsOf (chargerAt h) (r .charger) (latchedAt h) (latchedAt (took cells r ∷ h))) (eventsAt h))
 
 -- ---- statistics
 external-next : (x : ℤ) (ts : List ℤ) → temperaturesOf (cond (connected x) (x ∷ []) [] ++ ts) ≡ withExternal (temperaturesOf ts) x
@@ -143,7 +140,8 @@ external-next x ts = go (connected x) ts
     go true (y ∷ ys) = refl
     go false ts = λ i. record { coldest = coldestOf ts; hottest = hottestOf ts; seen = sym (or-false (some ts)) i }
 
-temperatures-next : (t : List ℕ × Readings) (ts : List ℤ) → temperaturesOf (externals t ++ ts) ≡ withExternal (withExternal (temperaturesOf ts) (t .1 .external1)) (t .1 .external2)
+temperatures-next : (t : List ℕ × Readings) (ts : List ℤ)
+    → temperaturesOf (externals t ++ ts) ≡ withExternal (withExternal (temperaturesOf ts) (t .1 .external1)) (t .1 .external2)
 temperatures-next t ts =
     let first : List ℤ = cond (connected (t .1 .external1)) (t .1 .external1 ∷ []) [] in
     ap temperaturesOf (append-assoc (cond (connected (t .1 .external2)) (t .1 .external2 ∷ []) []) first ts)
@@ -165,13 +163,15 @@ larger x xs = omega arith
 
 pub statistics-next : (cells : List ℕ) (r : Readings) (h : List Deed)
     → statisticsAt (took cells r ∷ h)
-    ≡ countedOf (riddenOf (statisticsAt h) (r .pulses)) r (extremesOf cells) (latchedAt h) (latchedAt (took cells r ∷ h)) (eqb (statusAt (took cells r ∷ h)) 0x91 && not (eqb (statusAt h) 0x91))
+    ≡ countedOf (riddenOf (statisticsAt h) (r .pulses)) r (extremesOf cells) (latchedAt h) (latchedAt (took cells r ∷ h))
+    (eqb (statusAt (took cells r ∷ h)) 0x91 && not (eqb (statusAt h) 0x91))
 unfolding statisticsAt countedOf riddenOf countsOf is
 statistics-next cells r h =
     let after = latchedAt (took cells r ∷ h) in
     let before = latchedAt h in
     let ts = each ticking (since clears h) in
-    let ridden : min 281474976710656 (r .pulses + pulsesAt h) ≡ min 281474976710656 (min 281474976710656 (pulsesAt h) + r .pulses) = omega arith in
+    let ridden : min 281474976710656 (r .pulses + pulsesAt h) ≡ min 281474976710656 (min 281474976710656 (pulsesAt h) + r .pulses) =
+    omega arith in
     λ i. record {
       temperatures = temperatures-next (cells, r) (each externals ts) i;
       counts =
@@ -179,13 +179,16 @@ statistics-next cells r h =
             uv = counted (after .uv && not (before .uv)) (latchings UV h) i;
             ov = counted (after .ov && not (before .ov)) (latchings OV h) i;
             doc = counted (after .doc && not (before .doc)) (latchings DOC h) i;
-            charge = counted-twice (after .coc && not (before .coc)) (after .roc && not (before .roc)) (latchings COC h) (latchings ROC h) i;
+            charge =
+                counted-twice (after .coc && not (before .coc)) (after .roc && not (before .roc)) (latchings COC h) (latchings ROC h) i;
             ot = counted (after .ot && not (before .ot)) (latchings OT h) i;
-            charging = counted (eqb (statusAt (took cells r ∷ h)) 0x91 && not (eqb (statusAt h) 0x91)) (count (λ yes. yes) (each entering (since clears h))) i;
+            charging = counted (eqb (statusAt (took cells r ∷ h)) 0x91 && not (eqb (statusAt h) 0x91))
+                (count (λ yes. yes) (each entering (since clears h))) i;
           };
       pulses = ridden i;
       drawn = larger (hundreds (below (r .current))) (map (λ t. hundreds (below (t .1 .current))) ts) i;
       fed = larger (hundreds (above (r .current))) (map (λ t. hundreds (above (t .1 .current))) ts) i;
-      difference = larger (extremesOf cells .highest - extremesOf cells .lowest) (map (λ t. extremesOf (t .0) .highest - extremesOf (t .0) .lowest) ts) i;
+      difference = larger (extremesOf cells .highest - extremesOf cells .lowest)
+          (map (λ t. extremesOf (t .0) .highest - extremesOf (t .0) .lowest) ts) i;
       cleared = secondsAt (from clears h);
     }

@@ -11,18 +11,21 @@ use Rattle.board.specs.declared.Board.{Board}
 use Rattle.pack.specs.Pack.{newPack}
 use Rattle.hire.specs.Hire.{newHire}
 use Rattle.board.specs.Start.{startBoard}
-use Rattle.board.specs.Calls.{Call, Seen, tick, frame, handover, offer, fetch, save, load, step}
+use Rattle.board.specs.Calls.{Call, Seen, step}
 use Rattle.board.specs.Behaviour.{afterIn, answersIn, board}
 use Rattle.board.specs.Demands.{Demand2, deeds, told, toldAll}
-use Rattle.board.specs.Account.{settingsAt, secondsAt, clockAt, latchedAt, waitsAt, rememberedAt, sensedAt, windowAt, chargerAt, statusAt, decisionAt, balancingAt, chargeAt, dischargeAt, eventsAt, statisticsAt, heardAt, boardAt, deedsOf}
+use Rattle.board.specs.Account.{settingsAt, secondsAt, clockAt, latchedAt, waitsAt, rememberedAt, sensedAt, windowAt, statusAt}
+use Rattle.board.specs.Account.{decisionAt, balancingAt, chargeAt, dischargeAt, eventsAt, statisticsAt, heardAt, boardAt, deedsOf}
 use Rattle.board.proofs.Account.Calls.{stepped}
 
 module _ (cells perKm : ℕ) where
   pub begun : startBoard cells perKm ≡ boardAt cells perKm (deedsOf cells perKm [])
-  unfolding startBoard newPack newHire noEvents clearedAt deedsOf boardAt settingsAt clockAt secondsAt latchedFrom waitsFrom rememberedFrom latchedAt waitsAt rememberedAt sensedAt windowAt chargerAt statusAt decisionAt balancingAt chargeAt dischargeAt eventsAt statisticsAt heardAt
+  unfolding startBoard newPack newHire noEvents clearedAt deedsOf boardAt settingsAt clockAt secondsAt latchedFrom waitsFrom rememberedFrom
+      latchedAt waitsAt rememberedAt sensedAt windowAt statusAt decisionAt balancingAt chargeAt dischargeAt eventsAt statisticsAt heardAt
   begun = refl
 
-  on : (h cs : List Call) → afterIn board (boardAt cells perKm (deedsOf cells perKm h)) cs ≡ boardAt cells perKm (deedsOf cells perKm (reverseAux cs h))
+  on : (h cs : List Call)
+      → afterIn board (boardAt cells perKm (deedsOf cells perKm h)) cs ≡ boardAt cells perKm (deedsOf cells perKm (reverseAux cs h))
   unfolding afterIn
   on h [] = refl
   on h (c ∷ cs) = ap (λ (b : Board). afterIn board b cs) (stepped cells perKm h c) ∙ on (c ∷ h) cs
@@ -30,23 +33,20 @@ module _ (cells perKm : ℕ) where
   pub account : (cs : List Call) → afterIn board (startBoard cells perKm) cs ≡ boardAt cells perKm (deeds cells perKm cs)
   account cs = ap (λ (b : Board). afterIn board b cs) begun ∙ on [] cs
 
-  -- what is seen of the switches and bits is the board after the call
-  seen-after : (b : Board) (c : Call) → step b c .1 ≡ record { number = step b c .1 .number; buffer = step b c .1 .buffer; taken = step b c .1 .taken; charge = step b c .0 .hire .charge; discharge = step b c .0 .hire .discharge; decision = step b c .0 .hire .decision; balancing = step b c .0 .hire .balancing }
-  unfolding step
-  seen-after b (tick given r) = refl
-  seen-after b (frame s room) = refl
-  seen-after b handover = refl
-  seen-after b (offer bytes) = refl
-  seen-after b (fetch room) = refl
-  seen-after b (save n) = refl
-  seen-after b (load area) = refl
-
   pub as-told : (h : List Call) (c : Call) → step (boardAt cells perKm (deedsOf cells perKm h)) c .1 ≡ told cells perKm h c
   unfolding told
   as-told h c =
       let b = boardAt cells perKm (deedsOf cells perKm h) in
-      seen-after b c
-      ∙ ap (λ (a : Board). record { number = step b c .1 .number; buffer = step b c .1 .buffer; taken = step b c .1 .taken; charge = a .hire .charge; discharge = a .hire .discharge; decision = a .hire .decision; balancing = a .hire .balancing }) (stepped cells perKm h c)
+      ap (λ (a : Board). record {
+        outcome = step b c .1 .outcome;
+        buffer = step b c .1 .buffer;
+        carried = step b c .1 .carried;
+        charge = a .hire .charge;
+        discharge = a .hire .discharge;
+        decision = a .hire .decision;
+        balancing = a .hire .balancing;
+      })
+      (stepped cells perKm h c)
 
   all-told : (h cs : List Call) → answersIn board (boardAt cells perKm (deedsOf cells perKm h)) cs ≡ toldAll cells perKm h cs
   unfolding answersIn toldAll

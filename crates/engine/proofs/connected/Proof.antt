@@ -25,8 +25,10 @@ returns c =
     let first = c .before .before in
     let at = first .before .before .before .record-at in
     λ i. record {
-      external1 = (told connected (at .result .readings .external1) (sfits-of (fits .0 .1)) (first .is-connected .ensures) ∙ ap (λ (r : Record). connected (r .readings .external1)) (at .ensures)) i;
-      external2 = (told connected (at .result .readings .external2) (sfits-of (fits .1 .0 .1)) (c .is-connected2 .ensures) ∙ ap (λ (r : Record). connected (r .readings .external2)) (at .ensures)) i;
+      external1 = (told connected (at .result .readings .external1) (sfits-of (fits .0 .1)) (first .is-connected .ensures)
+          ∙ ap (λ (r : Record). connected (r .readings .external1)) (at .ensures)) i;
+      external2 = (told connected (at .result .readings .external2) (sfits-of (fits .1 .0 .1)) (c .is-connected2 .ensures)
+          ∙ ap (λ (r : Record). connected (r .readings .external2)) (at .ensures)) i;
     }
 
 pub connected-spec : {M : Type 1} → statement M

@@ -21,7 +21,8 @@ of-requires : tie.Need-of-requires
 of-requires c κs = search needs
 
 returns : tie.Need-returns
-returns c = c .of .ensures ∙ ap (λ (n : ℕ). extremesOf (take n (c .before .before .before .args .t1))) (c .before .before .cells-used .ensures)
+returns c =
+    c .of .ensures ∙ ap (λ (n : ℕ). extremesOf (take n (c .before .before .before .args .t1))) (c .before .before .cells-used .ensures)
 
 pub extremes-spec : {M : Type 1} → statement M
 extremes-spec =

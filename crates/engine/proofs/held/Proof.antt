@@ -29,7 +29,8 @@ returns c =
     let a = at .before .before .args in
     c .of .ensures
     ∙ ap (λ (x : Conditions). is x (a .condition))
-    (c .before .holding .ensures ∙ of-moment (holdsOf factory) (a .count) (a .records .now) (a .tick) (at .record-at .ensures) (c .before .before .extremes .ensures))
+    (c .before .holding .ensures ∙ of-moment (holdsOf factory) (a .count) (a .records .now) (a .tick) (at .record-at .ensures)
+    (c .before .before .extremes .ensures))
 
 pub held-spec : {M : Type 1} → statement M
 held-spec =

@@ -43,7 +43,8 @@ loop-less c = search needs
 loop-again : tie.Need-loop-again Inv-loop μ-loop
 loop-again c =
     let connected = c .before .before in
-    next (connected .before .before .before .loop .inv) (search needs) (connected .connected2 .ensures) (c .before .either .ensures) (c .stays .ensures)
+    next (connected .before .before .before .loop .inv) (search needs) (connected .connected2 .ensures) (c .before .either .ensures)
+    (c .stays .ensures)
 
 returns : tie.Need-returns Inv-loop μ-loop
 returns c = broken (c .before .before .loop .inv) (search needs)

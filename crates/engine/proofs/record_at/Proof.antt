@@ -11,11 +11,11 @@ use Rattle.engine.proofs.record_at.Tie as tie
 start-requires : tie.Need-start-requires
 start-requires c κs = search needs
 
-sub-least : tie.Need-sub-least
-sub-least c = search needs
+sub-lesser : tie.Need-sub-lesser
+sub-lesser c = search needs
 
-least-requires : tie.Need-least-requires
-least-requires c κs = search needs
+lesser-requires : tie.Need-lesser-requires
+lesser-requires c κs = search needs
 
 add-end : tie.Need-add-end
 add-end c = search needs
@@ -36,15 +36,16 @@ returns : tie.Need-returns
 returns c =
     let a = c .before .before .before .before .before .args in
     c .of .ensures
-    ∙ ap (λ (l : List ℕ). recordOf l (a .count)) (part (48 * (a .tick)) 48 (a .records .now) (c .before .before .before .start .ensures) (c .before .before .least .ensures))
+    ∙ ap (λ (l : List ℕ). recordOf l (a .count)) (part (48 * (a .tick)) 48 (a .records .now) (c .before .before .before .start .ensures)
+    (c .before .before .lesser .ensures))
 
 pub record-at-spec : {M : Type 1} → statement M
 record-at-spec =
     tie.close
     (tie.spec
     start-requires
-    sub-least
-    least-requires
+    sub-lesser
+    lesser-requires
     add-end
     sub-of
     part-of-start

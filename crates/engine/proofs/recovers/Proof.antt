@@ -25,7 +25,8 @@ returns c =
     let at = c .before .before .before in
     let a = at .before .before .args in
     c .recovering .ensures
-    ∙ of-moment (λ (r : Readings) (e : Extremes). recoversOf factory r e noWaits (a .seen)) (a .count) (a .records .now) (a .tick) (at .record-at .ensures) (c .before .extremes .ensures)
+    ∙ of-moment (λ (r : Readings) (e : Extremes). recoversOf factory r e noWaits (a .seen)) (a .count) (a .records .now) (a .tick)
+    (at .record-at .ensures) (c .before .extremes .ensures)
 
 pub recovers-spec : {M : Type 1} → statement M
 recovers-spec =

@@ -28,7 +28,8 @@ recovered-requires c κs = search needs
 returns-2 : tie.Need-returns-2 Inv-loop μ-loop
 returns-2 c =
     let held = c .before .before .before in
-    was-recovered (held .before .before .loop .inv) (search needs) (held .held .ensures) (c .before .before .if1 .left) (c .before .recovered .ensures) (c .if2 .taken)
+    was-recovered (held .before .before .loop .inv) (search needs) (held .held .ensures) (c .before .before .if1 .left)
+    (c .before .recovered .ensures) (c .if2 .taken)
 
 loop-less : tie.Need-loop-less Inv-loop μ-loop
 loop-less c = search needs
@@ -36,7 +37,8 @@ loop-less c = search needs
 loop-again : tie.Need-loop-again Inv-loop μ-loop
 loop-again c =
     let held = c .before .before .before in
-    passed (held .before .before .loop .inv) (search needs) (held .held .ensures) (c .before .before .if1 .left) (c .before .recovered .ensures) (c .if2 .left)
+    passed (held .before .before .loop .inv) (search needs) (held .held .ensures) (c .before .before .if1 .left)
+    (c .before .recovered .ensures) (c .if2 .left)
 
 returns-3 : tie.Need-returns-3 Inv-loop μ-loop
 returns-3 c = ended (c .before .loop .inv) (search needs)

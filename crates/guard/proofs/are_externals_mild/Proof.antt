@@ -24,7 +24,9 @@ returns c =
     let two = c .before .before .before .before in
     let one = two .before .before in
     let start = one .before .before in
-    externals-told (λ c₁ t₁ c₂ t₂. (c₁ || c₂) && ((not c₁ || t₁) && (not c₂ || t₂))) (mild (start .args .settings)) (start .args .readings) (sfits-of (fits .0 .1)) (sfits-of (fits .1 .0 .1)) (one .is-connected .ensures) (c .before .before .is-mild .ensures) (two .is-connected2 .ensures) (c .is-mild2 .ensures)
+    externals-told (λ c₁ t₁ c₂ t₂. (c₁ || c₂) && ((not c₁ || t₁) && (not c₂ || t₂))) (mild (start .args .settings)) (start .args .readings)
+    (sfits-of (fits .0 .1)) (sfits-of (fits .1 .0 .1)) (one .is-connected .ensures) (c .before .before .is-mild .ensures)
+    (two .is-connected2 .ensures) (c .is-mild2 .ensures)
 
 pub are-externals-mild-spec : {M : Type 1} → statement M
 are-externals-mild-spec =

@@ -33,7 +33,9 @@ returns c =
     let test = cool (a .settings) in
     ap₂ _&&_
     (told test (a .readings .internal) (sfits-of (fits .0 .1)) (internal .is-cool .ensures))
-    (externals-told (λ c₁ t₁ c₂ t₂. (not (a .remembered .external1) || c₁ && t₁) && (not (a .remembered .external2) || c₂ && t₂)) test (a .readings) (sfits-of (fits .1 .0 .1)) (sfits-of (fits .1 .1 .0 .1)) (one .is-connected .ensures) (first .is-cool2 .ensures) (two .is-connected2 .ensures) (c .is-cool3 .ensures))
+    (externals-told (λ c₁ t₁ c₂ t₂. (not (a .remembered .external1) || c₁ && t₁) && (not (a .remembered .external2) || c₂ && t₂)) test
+    (a .readings) (sfits-of (fits .1 .0 .1)) (sfits-of (fits .1 .1 .0 .1)) (one .is-connected .ensures) (first .is-cool2 .ensures)
+    (two .is-connected2 .ensures) (c .is-cool3 .ensures))
 
 pub are-remembered-cool-spec : {M : Type 1} → statement M
 are-remembered-cool-spec =

@@ -36,7 +36,13 @@ cast-t14 c = search needs
 
 returns : tie.Need-returns
 unfolding holdsOf
-returns c = let d = c .before .before .before .before .before .before in rw (d .before .before .before .is-sensor-hot .ensures, d .before .before .is-drawn-too-much .ensures, d .before .is-fed-too-much .ensures, d .is-external-cold .ensures)
+returns c = let d = c .before .before .before .before .before .before in
+    rw (
+      d .before .before .before .is-sensor-hot .ensures,
+      d .before .before .is-drawn-too-much .ensures,
+      d .before .is-fed-too-much .ensures,
+      d .is-external-cold .ensures,
+    )
 
 pub holding-spec : {M : Type 1} → statement M
 holding-spec =

@@ -15,7 +15,9 @@ tenfold-requires c κs = search needs
 
 returns : tie.Need-returns
 returns c = let start = c .before .before .before in
-    at leZ (told (λ z. z) _ (start .fits .t) (c .before .before .wide .ensures)) (told (λ z. pos 10 *ℤ z) (start .args .settings .r320) (sfits-of (c .before .struct-told .given .1 .1 .1 .1 .1 .1 .1 .1 .0 .1)) (c .tenfold .ensures)) (sfits-of (c .before .before .wide .ok)) (sfits-of (c .tenfold .ok))
+    at leZ (told (λ z. z) _ (start .fits .t) (c .before .before .wide .ensures))
+    (told (λ z. pos 10 *ℤ z) (start .args .settings .r320) (sfits-of (c .before .struct-told .given .1 .1 .1 .1 .1 .1 .1 .1 .0 .1))
+    (c .tenfold .ensures)) (sfits-of (c .before .before .wide .ok)) (sfits-of (c .tenfold .ok))
 
 pub is-cold-spec : {M : Type 1} → statement M
 is-cold-spec = tie.close (tie.spec wide-requires tenfold-requires returns)

@@ -13,7 +13,8 @@ cool-limit-requires : tie.Need-cool-limit-requires
 cool-limit-requires c κs = search needs
 
 returns : tie.Need-returns
-returns c = at ltZ (told (λ z. z) _ (c .before .before .fits .t) (c .before .wide .ensures)) (c .cool-limit .ensures) (sfits-of (c .before .wide .ok)) (sfits-of (c .cool-limit .ok))
+returns c = at ltZ (told (λ z. z) _ (c .before .before .fits .t) (c .before .wide .ensures)) (c .cool-limit .ensures)
+    (sfits-of (c .before .wide .ok)) (sfits-of (c .cool-limit .ok))
 
 pub is-cool-spec : {M : Type 1} → statement M
 is-cool-spec = tie.close (tie.spec wide-requires cool-limit-requires returns)

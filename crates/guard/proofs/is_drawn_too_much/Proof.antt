@@ -10,7 +10,8 @@ minus-times-requires : tie.Need-minus-times-requires
 minus-times-requires c κs = search needs
 
 returns : tie.Need-returns
-returns c = at leZ {a = c .before .before .before .args .readings .current} refl (c .before .before .minus-times .ensures) (sfits-of (c .struct-told .given .0 .1)) (sfits-of (c .before .before .minus-times .ok))
+returns c = at leZ {a = c .before .before .before .args .readings .current} refl (c .before .before .minus-times .ensures)
+    (sfits-of (c .struct-told .given .0 .1)) (sfits-of (c .before .before .minus-times .ok))
 
 pub is-drawn-too-much-spec : {M : Type 1} → statement M
 is-drawn-too-much-spec = tie.close (tie.spec minus-times-requires returns)

@@ -23,7 +23,9 @@ returns c =
     let fits = c .before .struct-told4 .given .1 .1 in
     let first = c .before .before .before .before in
     let start = first .before .before .before .before in
-    externals-told (λ c₁ t₁ c₂ t₂. c₁ && t₁ || c₂ && t₂) (cold (start .args .settings)) (start .args .readings) (sfits-of (fits .0 .1)) (sfits-of (fits .1 .0 .1)) (first .before .before .is-connected .ensures) (first .is-cold .ensures) (c .before .before .is-connected2 .ensures) (c .is-cold2 .ensures)
+    externals-told (λ c₁ t₁ c₂ t₂. c₁ && t₁ || c₂ && t₂) (cold (start .args .settings)) (start .args .readings) (sfits-of (fits .0 .1))
+    (sfits-of (fits .1 .0 .1)) (first .before .before .is-connected .ensures) (first .is-cold .ensures)
+    (c .before .before .is-connected2 .ensures) (c .is-cold2 .ensures)
 
 pub is-external-cold-spec : {M : Type 1} → statement M
 is-external-cold-spec =

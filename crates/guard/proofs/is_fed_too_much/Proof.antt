@@ -10,7 +10,8 @@ times-requires : tie.Need-times-requires
 times-requires c κs = search needs
 
 returns : tie.Need-returns
-returns c = at leZ {b = c .before .before .before .args .readings .current} (c .before .before .times .ensures) refl (sfits-of (c .before .before .times .ok)) (sfits-of (c .struct-told .given .0 .1))
+returns c = at leZ {b = c .before .before .before .args .readings .current} (c .before .before .times .ensures) refl
+    (sfits-of (c .before .before .times .ok)) (sfits-of (c .struct-told .given .0 .1))
 
 pub is-fed-too-much-spec : {M : Type 1} → statement M
 is-fed-too-much-spec = tie.close (tie.spec times-requires returns)

@@ -13,7 +13,8 @@ wide-requires : tie.Need-wide-requires
 wide-requires c κs = search needs
 
 returns : tie.Need-returns
-returns c = at leZ (c .before .times .ensures) (told (λ z. z) _ (c .before .before .fits .t) (c .wide .ensures)) (sfits-of (c .before .times .ok)) (sfits-of (c .wide .ok))
+returns c = at leZ (c .before .times .ensures) (told (λ z. z) _ (c .before .before .fits .t) (c .wide .ensures))
+    (sfits-of (c .before .times .ok)) (sfits-of (c .wide .ok))
 
 pub is-hot-spec : {M : Type 1} → statement M
 is-hot-spec = tie.close (tie.spec times-requires wide-requires returns)

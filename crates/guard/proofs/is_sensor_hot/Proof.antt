@@ -31,7 +31,9 @@ returns c =
     let test = hot (start .args .settings) in
     ap₂ _||_
     (told test (start .args .readings .internal) (sfits-of (fits .0 .1)) (internal .is-hot .ensures))
-    (externals-told (λ c₁ t₁ c₂ t₂. c₁ && t₁ || c₂ && t₂) test (start .args .readings) (sfits-of (fits .1 .0 .1)) (sfits-of (fits .1 .1 .0 .1)) (first .before .before .is-connected .ensures) (first .is-hot2 .ensures) (c .before .before .is-connected2 .ensures) (c .is-hot3 .ensures))
+    (externals-told (λ c₁ t₁ c₂ t₂. c₁ && t₁ || c₂ && t₂) test (start .args .readings) (sfits-of (fits .1 .0 .1))
+    (sfits-of (fits .1 .1 .0 .1)) (first .before .before .is-connected .ensures) (first .is-hot2 .ensures)
+    (c .before .before .is-connected2 .ensures) (c .is-hot3 .ensures))
 
 pub is-sensor-hot-spec : {M : Type 1} → statement M
 is-sensor-hot-spec =

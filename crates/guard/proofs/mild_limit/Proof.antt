@@ -9,7 +9,8 @@ use Rattle.guard.proofs.mild_limit.Tie as tie
 limit : (c : tie.After-tenfold) → Step (λ z. z +ℤ pos 50) (c .tenfold .result) (pos 10 *ℤ c .before .args .r320)
 limit c =
     let start = c .before in
-    step (told (λ z. pos 10 *ℤ z) _ (start .fits .r320) (c .tenfold .ensures)) (sfits-of (c .tenfold .ok)) (ten-sum-fits (start .args .r320) (start .fits .r320))
+    step (told (λ z. pos 10 *ℤ z) _ (start .fits .r320) (c .tenfold .ensures)) (sfits-of (c .tenfold .ok))
+    (ten-sum-fits (start .args .r320) (start .fits .r320))
 
 tenfold-requires : tie.Need-tenfold-requires
 tenfold-requires c κs = search needs

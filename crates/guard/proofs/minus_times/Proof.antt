@@ -11,7 +11,8 @@ use Rattle.guard.proofs.minus_times.Tie as tie
 limit : (c : tie.After-times) → Step (λ z. pos 0 -ℤ z) (c .times .result) (pos (c .before .args .factor * c .before .args .setting))
 limit c =
     let n = c .before .args .factor * c .before .args .setting in
-    step (c .times .ensures) (sfits-of (c .times .ok)) (sum-fits (pos 0) (negℤ (pos n)) (rw (size-neg n) (omega (arith, product-lt (c .before .pre) (c .before .fits .setting .fits)))))
+    step (c .times .ensures) (sfits-of (c .times .ok))
+    (sum-fits (pos 0) (negℤ (pos n)) (rw (size-neg n) (omega (arith, product-lt (c .before .pre) (c .before .fits .setting .fits)))))
 
 times-requires : tie.Need-times-requires
 times-requires c κs = search needs

@@ -24,7 +24,8 @@ cast-t11 c = search needs
 
 returns : tie.Need-returns
 unfolding recoversOf
-returns c = let d = c .before .before .before .before .before in rw (d .before .before .are-cells-low-enough .ensures, d .before .are-remembered-cool .ensures, d .are-externals-mild .ensures)
+returns c = let d = c .before .before .before .before .before in
+    rw (d .before .before .are-cells-low-enough .ensures, d .before .are-remembered-cool .ensures, d .are-externals-mild .ensures)
 
 pub recovering-spec : {M : Type 1} → statement M
 recovering-spec =

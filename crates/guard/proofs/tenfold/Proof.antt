@@ -9,7 +9,8 @@ use Rattle.guard.proofs.tenfold.Statement.{statement}
 use Rattle.guard.proofs.tenfold.Tie as tie
 
 limit : (c : tie.Start) → Step (λ z. pos 10 *ℤ z) (toZ w16 (ofZ w16 (c .args .r320))) (c .args .r320)
-limit c = step (toZ-ofZ (c .fits .r320)) (widened-fits w16 w32 (c .args .r320) tt (c .fits .r320)) (ten-fits (c .args .r320) (c .fits .r320))
+limit c =
+    step (toZ-ofZ (c .fits .r320)) (widened-fits w16 w32 (c .args .r320) tt (c .fits .r320)) (ten-fits (c .args .r320) (c .fits .r320))
 
 cast-result : tie.Need-cast-result
 cast-result c = widened-fits w16 w32 (c .args .r320) tt (c .fits .r320)

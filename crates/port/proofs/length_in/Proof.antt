@@ -29,8 +29,8 @@ shared-slice-read-length-by-2 c = search needs
 length-by-requires : tie.Need-length-by-requires
 length-by-requires c κs = search needs
 
-least-requires : tie.Need-least-requires
-least-requires c κs = search needs
+lesser-requires : tie.Need-lesser-requires
+lesser-requires c κs = search needs
 
 returns-3 : tie.Need-returns-3
 unfolding lengthIn
@@ -38,7 +38,7 @@ returns-3 c =
     let by = c .before in
     let else2 = by .before .before .before in
     let else1 = else2 .before .before in
-    (rw (le-ltb _ 259 (else1 .if1 .left), eq-eqb _ 0xAA (else2 .if2 .left), c .least .ensures .0, by .length-by .ensures), c .least .ensures .2)
+    (rw (le-ltb _ 259 (else1 .if1 .left), eq-eqb _ 0xAA (else2 .if2 .left), c .lesser .ensures, by .length-by .ensures), (search needs))
 
 pub length-in-spec : {M : Type 1} → statement M
 length-in-spec =
@@ -50,5 +50,5 @@ length-in-spec =
     shared-slice-read-length-by
     shared-slice-read-length-by-2
     length-by-requires
-    least-requires
+    lesser-requires
     returns-3)

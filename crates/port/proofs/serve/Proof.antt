@@ -22,8 +22,8 @@ slice-aggregate-answer c = search needs
 answer-requires : tie.Need-answer-requires Inv-loop μ-loop
 answer-requires c κs = search needs
 
-least-requires : tie.Need-least-requires Inv-loop μ-loop
-least-requires c κs = search needs
+lesser-requires : tie.Need-lesser-requires Inv-loop μ-loop
+lesser-requires c κs = search needs
 
 sub-write-all : tie.Need-sub-write-all Inv-loop μ-loop
 sub-write-all c = search needs
@@ -37,8 +37,8 @@ part-write-all-end c = search needs
 write-all-requires : tie.Need-write-all-requires Inv-loop μ-loop
 write-all-requires c κs = search needs
 
-least-requires-2 : tie.Need-least-requires-2 Inv-loop μ-loop
-least-requires-2 c κs = search needs
+lesser-requires-2 : tie.Need-lesser-requires-2 Inv-loop μ-loop
+lesser-requires-2 c κs = search needs
 
 sub-rest : tie.Need-sub-rest Inv-loop μ-loop
 sub-rest c = search needs
@@ -58,8 +58,8 @@ loop-less c = search needs
 loop-again : tie.Need-loop-again Inv-loop μ-loop
 loop-again c =
     let answer = c .before .before .before .before .before .before .before .before in
-    let loop = answer .before .before .before .before in
-    (next (loop .loop .inv .0) (answer .answer .ensures) (loop .loop .inv .1) (c .before .least2 .ensures .0) (search needs) (search needs), search needs)
+    let loop = answer .before .before .before .before .loop .inv in
+    (next (loop .0) (answer .answer .ensures) (loop .1) (c .before .lesser2 .ensures) (search needs) (search needs), search needs)
 
 returns : tie.Need-returns Inv-loop μ-loop
 returns c = none-left (c .before .before .loop .inv .0) (search needs)
@@ -76,12 +76,12 @@ serve-spec =
     loop-holds
     slice-aggregate-answer
     answer-requires
-    least-requires
+    lesser-requires
     sub-write-all
     part-write-all-start
     part-write-all-end
     write-all-requires
-    least-requires-2
+    lesser-requires-2
     sub-rest
     part-rest-start
     part-rest-end

@@ -32,7 +32,8 @@ loop-less c = search needs
 
 loop-again : tie.Need-loop-again Inv-loop μ-loop
 unfolding allShown
-loop-again c = (search needs, rw (add-one, c .is-in-one-range .ensures, c .before .address-at .ensures, c .before .before .before .loop .inv .1))
+loop-again c =
+    (search needs, rw (add-one, c .is-in-one-range .ensures, c .before .address-at .ensures, c .before .before .before .loop .inv .1))
 
 returns : tie.Need-returns Inv-loop μ-loop
 returns c =

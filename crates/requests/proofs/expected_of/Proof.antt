@@ -44,38 +44,38 @@ expect-requires-8 c κs = search needs
 expect-requires-9 : tie.Need-expect-requires-9
 expect-requires-9 c κs = search needs
 
-live-requires : tie.Need-live-requires
-live-requires c κs = search needs
+bare-requires : tie.Need-bare-requires
+bare-requires c κs = search needs
 
 expect-requires-10 : tie.Need-expect-requires-10
 expect-requires-10 c κs = search needs
 
-live-requires-2 : tie.Need-live-requires-2
-live-requires-2 c κs = search needs
+bare-requires-2 : tie.Need-bare-requires-2
+bare-requires-2 c κs = search needs
 
 expect-requires-11 : tie.Need-expect-requires-11
 expect-requires-11 c κs = search needs
 
-live-requires-3 : tie.Need-live-requires-3
-live-requires-3 c κs = search needs
+bare-requires-3 : tie.Need-bare-requires-3
+bare-requires-3 c κs = search needs
 
 expect-requires-12 : tie.Need-expect-requires-12
 expect-requires-12 c κs = search needs
 
-live-requires-4 : tie.Need-live-requires-4
-live-requires-4 c κs = search needs
+bare-requires-4 : tie.Need-bare-requires-4
+bare-requires-4 c κs = search needs
 
 expect-requires-13 : tie.Need-expect-requires-13
 expect-requires-13 c κs = search needs
 
-live-requires-5 : tie.Need-live-requires-5
-live-requires-5 c κs = search needs
+bare-requires-5 : tie.Need-bare-requires-5
+bare-requires-5 c κs = search needs
 
 expect-requires-14 : tie.Need-expect-requires-14
 expect-requires-14 c κs = search needs
 
-live-requires-6 : tie.Need-live-requires-6
-live-requires-6 c κs = search needs
+bare-requires-6 : tie.Need-bare-requires-6
+bare-requires-6 c κs = search needs
 
 expect-requires-15 : tie.Need-expect-requires-15
 expect-requires-15 c κs = search needs
@@ -130,27 +130,27 @@ returns-9 c = rw (c .before .match .keys9, c .expect9 .ensures)
 
 returns-10 : tie.Need-returns-10
 unfolding expectedOf
-returns-10 c = rw (c .before .before .match .keys10, c .expect10 .ensures, c .before .live .ensures)
+returns-10 c = rw (c .before .before .match .keys10, c .expect10 .ensures, c .before .bare .ensures)
 
 returns-11 : tie.Need-returns-11
 unfolding expectedOf
-returns-11 c = rw (c .before .before .match .keys11, c .expect11 .ensures, c .before .live2 .ensures)
+returns-11 c = rw (c .before .before .match .keys11, c .expect11 .ensures, c .before .bare2 .ensures)
 
 returns-12 : tie.Need-returns-12
 unfolding expectedOf
-returns-12 c = rw (c .before .before .match .keys12, c .expect12 .ensures, c .before .live3 .ensures)
+returns-12 c = rw (c .before .before .match .keys12, c .expect12 .ensures, c .before .bare3 .ensures)
 
 returns-13 : tie.Need-returns-13
 unfolding expectedOf
-returns-13 c = rw (c .before .before .match .keys13, c .expect13 .ensures, c .before .live4 .ensures)
+returns-13 c = rw (c .before .before .match .keys13, c .expect13 .ensures, c .before .bare4 .ensures)
 
 returns-14 : tie.Need-returns-14
 unfolding expectedOf
-returns-14 c = rw (c .before .before .match .keys14, c .expect14 .ensures, c .before .live5 .ensures)
+returns-14 c = rw (c .before .before .match .keys14, c .expect14 .ensures, c .before .bare5 .ensures)
 
 returns-15 : tie.Need-returns-15
 unfolding expectedOf
-returns-15 c = rw (c .before .before .match .keys15, c .expect15 .ensures, c .before .live6 .ensures)
+returns-15 c = rw (c .before .before .match .keys15, c .expect15 .ensures, c .before .bare6 .ensures)
 
 returns-16 : tie.Need-returns-16
 unfolding expectedOf
@@ -207,17 +207,17 @@ expected-of-spec =
     expect-requires-7
     expect-requires-8
     expect-requires-9
-    live-requires
+    bare-requires
     expect-requires-10
-    live-requires-2
+    bare-requires-2
     expect-requires-11
-    live-requires-3
+    bare-requires-3
     expect-requires-12
-    live-requires-4
+    bare-requires-4
     expect-requires-13
-    live-requires-5
+    bare-requires-5
     expect-requires-14
-    live-requires-6
+    bare-requires-6
     expect-requires-15
     expect-requires-16
     expect-requires-17

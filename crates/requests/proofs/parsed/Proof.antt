@@ -1,75 +1,122 @@
--- The tests in the definition's order: length, first byte, CRC. Assumes nothing.
-use mathlib.Core.Path.{_≡_, sym}
-use mathlib.Core.Bool.{cond}
-use denote.Ref.{now}
+-- The tests are the rows, in their order. Assumes nothing.
+use mathlib.Core.Path.{_≡_, refl, sym, _∙_}
+use mathlib.Core.Bool.{Bool, true, false, not, cond}
+use mathlib.Core.List.{List, [], _∷_}
+use Prim.Native.Nat.{ℕ}
 use lib.Dec.{eqb}
-use lib.Seq.{length-take-le}
-use borrow.Author.Tests.{lt-ltb, le-ltb, ne-eqb, eq-eqb}
+use lib.ListN.{length}
+use borrow.Author.Tests.{eq-eqb, ne-eqb}
+use denote.Ref.{now}
 use borrow.Author.Needs.{needs}
-use Rattle.requests.specs.declared.Refusal.the-variants.{Damaged}
+use Rattle.refusals.specs.declared.Refusal.the-variants.{Foreign, Damaged, UnknownCommand, WrongLength, WrongField}
+use Rattle.refusals.specs.Refusals.{first}
+use Rattle.requests.specs.declared.Expected.{Expected}
+use Rattle.requests.specs.declared.Fields.{Fields}
+use Rattle.requests.specs.declared.Request.{Request}
 use Rattle.requests.specs.declared.Request.the-variants.{Refused}
-use Rattle.requests.specs.Requests.{askedOf, requestOf}
+use Rattle.requests.specs.Requests.{expectedIn, fieldsOf, fieldsIn, foreign, damaged, isUnknown, unknownCommand}
+use Rattle.requests.specs.Requests.{askedOf, requestBy, requestOf}
 use Rattle.requests.proofs.parsed.Statement.{statement}
 use Rattle.requests.proofs.parsed.Tie as tie
 
--- what is left to ask of a request that is long enough and starts with 0xAA
-framed : (c : tie.After-low-first-at) →
-    let b = c .before .before .before in
-    let s = now (b .before .before .before .before .before .args .bytes) in
-    requestOf s ≡ cond (eqb (c .before .crc .result) (c .low-first-at .result)) (askedOf (b .byte-at2 .result) s) (Refused (Damaged (b .byte-at2 .result)))
-unfolding requestOf
-framed c =
-    let b = c .before .before .before in
-    let a = b .before .before in
-    rw (le-ltb _ _ (a .before .if1 .left), ← a .byte-at .ensures, b .before .if2 .left, ← b .byte-at2 .ensures, ← c .before .crc .ensures, ← c .low-first-at .ensures)
+-- one test after the other, and what the fields then ask
+abbrev chain : Bool → Bool → Bool → Bool → Fields → Request
+chain f d u l r =
+    cond f (Refused Foreign)
+    (cond d (Refused Damaged)
+    (cond u (Refused UnknownCommand)
+    (cond l (Refused WrongLength)
+    (cond (r .good) (r .asks) (Refused WrongField)))))
+
+-- the last three tests look at what is expected of the request
+tested : (s : List ℕ) {f d u t : Bool} {e : Expected} {r : Fields} → f ≡ foreign s → d ≡ damaged s → e ≡ expectedIn s
+    → u ≡ isUnknown (e .command) → eqb (length s) (e .length) ≡ t → r ≡ fieldsOf (e .command) s → chain f d u (not t) r ≡ requestOf s
+unfolding requestOf first
+tested s a b p c d e =
+    let t = eqb (length s) (expectedIn s .length) in
+    rw (a, b, c, ← d, e, p) (go (foreign s) (damaged s) (unknownCommand s) t (fieldsIn s .good) (askedOf s))
+  where
+    go : (f d u t g : Bool) (q : Request)
+        → chain f d u (not t) (record { good = g; asks = q })
+        ≡ requestBy (first ((Foreign, f) ∷ (Damaged, d) ∷ (UnknownCommand, u) ∷ (WrongLength, not t) ∷ (WrongField, not g) ∷ [])) q
+    go true d u t g q = refl
+    go false true u t g q = refl
+    go false false true t g q = refl
+    go false false false false g q = refl
+    go false false false true true q = refl
+    go false false false true false q = refl
+
+-- of a request that is ours and whole, by what is expected of it
+whole : (c : tie.After-is-unknown) {u t : Bool} {r : Fields} →
+    let s = now (c .before .before .before .before .before .before .before .args .bytes) in
+    let e = c .before .expected-in .result in
+    u ≡ c .is-unknown .result → eqb (length s) (e .length) ≡ t → r ≡ fieldsOf (e .command) s → chain false false u (not t) r ≡ requestOf s
+whole c q =
+    let d = c .before .before in
+    let f = d .before .before in
+    tested _
+    (sym (f .if1 .left) ∙ f .before .is-foreign .ensures)
+    (sym (d .if2 .left) ∙ d .before .is-damaged .ensures)
+    (c .before .expected-in .ensures .0)
+    (q ∙ c .is-unknown .ensures)
+
+is-foreign-requires : tie.Need-is-foreign-requires
+is-foreign-requires c κs = search needs
 
 returns : tie.Need-returns
-unfolding requestOf
-returns c = rw (lt-ltb _ _ (c .if1 .taken))
+returns c = tested _ (sym (c .if1 .taken) ∙ c .before .is-foreign .ensures) refl refl refl refl refl
 
-byte-at-requires : tie.Need-byte-at-requires
-byte-at-requires c κs = search needs
+is-damaged-requires : tie.Need-is-damaged-requires
+is-damaged-requires c κs = search needs
 
 returns-2 : tie.Need-returns-2
-unfolding requestOf
-returns-2 c = rw (le-ltb _ _ (c .before .before .if1 .left), ← c .before .byte-at .ensures, ne-eqb _ _ (c .if2 .taken))
+returns-2 c =
+    let f = c .before .before in
+    tested _ (sym (f .if1 .left) ∙ f .before .is-foreign .ensures) (sym (c .if2 .taken) ∙ c .before .is-damaged .ensures)
+    refl refl refl refl
 
-byte-at-requires-2 : tie.Need-byte-at-requires-2
-byte-at-requires-2 c κs = search needs
+expected-in-requires : tie.Need-expected-in-requires
+expected-in-requires c κs = search needs
 
-sub-end : tie.Need-sub-end
-sub-end c = search needs
-
-slice-aggregate-crc : tie.Need-slice-aggregate-crc
-slice-aggregate-crc c = sym (length-take-le _ _ (search needs))
-
-crc-requires : tie.Need-crc-requires
-crc-requires c κs = search needs
-
-low-first-at-requires : tie.Need-low-first-at-requires
-low-first-at-requires c κs = search needs
-
-asked-requires : tie.Need-asked-requires
-asked-requires c κs = search needs
+is-unknown-requires : tie.Need-is-unknown-requires
+is-unknown-requires c κs = search needs
 
 returns-3 : tie.Need-returns-3
-returns-3 c = rw (framed (c .before .before), eq-eqb _ _ (c .before .if3 .taken), c .asked .ensures)
+returns-3 c = whole (c .before) (sym (c .if3 .taken)) refl refl
 
 returns-4 : tie.Need-returns-4
-returns-4 c = rw (framed (c .before), ne-eqb _ _ (c .if3 .left))
+returns-4 c = let k = c .before .before in whole (k .before) (sym (k .if3 .left)) (ne-eqb _ _ (c .if4 .taken)) refl
+
+fields-of-requires : tie.Need-fields-of-requires
+fields-of-requires c κs = search needs
+
+-- of the right length too
+read-out : (c : tie.After-fields-of) →
+    let s = now (c .before .before .before .before .before .before .before .before .before .before .before .args .bytes) in
+    let r = c .fields-of .result in
+    cond (r .good) (r .asks) (Refused WrongField) ≡ requestOf s
+read-out c =
+    let k = c .before .before .before in
+    whole (k .before) (sym (k .if3 .left)) (eq-eqb _ _ (c .before .if4 .left)) (c .fields-of .ensures)
+
+returns-5 : tie.Need-returns-5
+returns-5 c = rw (c .if5 .taken) at (read-out (c .before))
+
+returns-6 : tie.Need-returns-6
+returns-6 c = rw (c .if5 .left) at (read-out (c .before))
 
 pub parsed-spec : {M : Type 1} → statement M
 parsed-spec =
     tie.close
     (tie.spec
+    is-foreign-requires
     returns
-    byte-at-requires
+    is-damaged-requires
     returns-2
-    byte-at-requires-2
-    sub-end
-    slice-aggregate-crc
-    crc-requires
-    low-first-at-requires
-    asked-requires
+    expected-in-requires
+    is-unknown-requires
     returns-3
-    returns-4)
+    returns-4
+    fields-of-requires
+    returns-5
+    returns-6)

@@ -1,6 +1,5 @@
 -- The code's test is the definition's. Assumes nothing.
 use borrow.Author.Needs.{needs}
-use Rattle.requests.specs.Requests.{settingsOf}
 use Rattle.requests.proofs.settings_of.Statement.{statement}
 use Rattle.requests.proofs.settings_of.Tie as tie
 
@@ -8,12 +7,7 @@ kind-of-requires : tie.Need-kind-of-requires
 kind-of-requires c κs = search needs
 
 returns : tie.Need-returns
-unfolding settingsOf
-returns c = rw (c .kind-of .ensures, c .before .if1 .taken)
-
-returns-2 : tie.Need-returns-2
-unfolding settingsOf
-returns-2 c = rw (c .if1 .left)
+returns c = rw (c .kind-of .ensures)
 
 pub settings-of-spec : {M : Type 1} → statement M
-settings-of-spec = tie.close (tie.spec kind-of-requires returns returns-2)
+settings-of-spec = tie.close (tie.spec kind-of-requires returns)

@@ -14,7 +14,8 @@ degrees-lifted-requires c κs = search needs
 returns : tie.Need-returns
 returns c =
     let start = c .before .before in
-    rw (c .degrees-lifted .ensures, c .before .lifted-16 .ensures, toZ-ofZ (start .fits .tenths)) (degrees-of-lifted (start .args .tenths) (start .fits .tenths .sfits))
+    rw (c .degrees-lifted .ensures, c .before .lifted-16 .ensures, toZ-ofZ (start .fits .tenths))
+    (degrees-of-lifted (start .args .tenths) (start .fits .tenths .sfits))
 
 pub degrees-spec : {M : Type 1} → statement M
 degrees-spec = tie.close (tie.spec lifted-16-requires degrees-lifted-requires returns)

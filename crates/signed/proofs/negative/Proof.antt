@@ -14,7 +14,8 @@ under-zero-requires c κs = search needs
 returns : tie.Need-returns
 returns c =
     let start = c .before .before in
-    rw (c .under-zero .ensures, c .before .lifted-32 .ensures, toZ-ofZ (start .fits .current)) (below-lifted 2147483648 (start .args .current) (start .fits .current .sfits))
+    rw (c .under-zero .ensures, c .before .lifted-32 .ensures, toZ-ofZ (start .fits .current))
+    (below-lifted 2147483648 (start .args .current) (start .fits .current .sfits))
 
 pub negative-spec : {M : Type 1} → statement M
 negative-spec = tie.close (tie.spec lifted-32-requires under-zero-requires returns)

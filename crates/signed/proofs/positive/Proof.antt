@@ -14,7 +14,8 @@ over-zero-requires c κs = search needs
 returns : tie.Need-returns
 returns c =
     let start = c .before .before in
-    rw (c .over-zero .ensures, c .before .lifted-32 .ensures, toZ-ofZ (start .fits .current)) (above-lifted 2147483648 (start .args .current) (start .fits .current .sfits))
+    rw (c .over-zero .ensures, c .before .lifted-32 .ensures, toZ-ofZ (start .fits .current))
+    (above-lifted 2147483648 (start .args .current) (start .fits .current .sfits))
 
 pub positive-spec : {M : Type 1} → statement M
 positive-spec = tie.close (tie.spec lifted-32-requires over-zero-requires returns)

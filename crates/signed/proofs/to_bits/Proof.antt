@@ -14,7 +14,8 @@ flipped-requires c κs = search needs
 returns : tie.Need-returns
 returns c =
     let start = c .before .before in
-    rw (c .flipped .ensures, c .before .lifted-16 .ensures, toZ-ofZ (start .fits .value)) (bits-lifted (start .args .value) (start .fits .value .sfits))
+    rw (c .flipped .ensures, c .before .lifted-16 .ensures, toZ-ofZ (start .fits .value))
+    (bits-lifted (start .args .value) (start .fits .value .sfits))
 
 pub to-bits-spec : {M : Type 1} → statement M
 to-bits-spec = tie.close (tie.spec lifted-16-requires flipped-requires returns)

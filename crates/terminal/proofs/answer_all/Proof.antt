@@ -7,7 +7,8 @@ use Rattle.terminal.proofs.answer_all.Statement.{statement}
 use Rattle.terminal.proofs.answer_all.Tie as tie
 
 abbrev Inv-loop : tie.InvT-loop
-Inv-loop prompts block₀ line₀ out₀ board₀ held₀ turns₀ count₀ t11 block line out board held turns count = (length block ≡ length block₀) × (length line ≡ length line₀) × (length out ≡ length out₀)
+Inv-loop prompts block₀ line₀ out₀ board₀ held₀ turns₀ count₀ t11 block line out board held turns count =
+    (length block ≡ length block₀) × (length line ≡ length line₀) × (length out ≡ length out₀)
 
 abbrev μ-loop : tie.MeasureT-loop
 μ-loop prompts block₀ line₀ out₀ board₀ held₀ turns₀ count₀ t11 block line out board held turns count = turns
@@ -21,8 +22,8 @@ block-read-requires c κs = tt
 loop-holds : tie.Need-loop-holds Inv-loop μ-loop
 loop-holds c = search needs
 
-least-requires : tie.Need-least-requires Inv-loop μ-loop
-least-requires c κs = tt
+lesser-requires : tie.Need-lesser-requires Inv-loop μ-loop
+lesser-requires c κs = tt
 
 sub-block-answered : tie.Need-sub-block-answered Inv-loop μ-loop
 sub-block-answered c = search needs
@@ -52,15 +53,20 @@ block-read-requires-2 : tie.Need-block-read-requires-2 Inv-loop μ-loop
 block-read-requires-2 c κs = tt
 
 sub-turns : tie.Need-sub-turns Inv-loop μ-loop
-sub-turns c = omega (arith, c .before .before .before .before .before .before .before .before .before .before .before .before .before .before .before .before .before .before)
+sub-turns c =
+    let later = c .before .before .before .before .before .before .before .before .before in
+    omega (arith, later .before .before .before .before .before .before .before .before .before)
 
 loop-less : tie.Need-loop-less Inv-loop μ-loop
-loop-less c = omega (arith, c .before .before .before .before .before .before .before .before .before .before .before .before .before .before .before .before .before .before)
+loop-less c =
+    let later = c .before .before .before .before .before .before .before .before .before in
+    omega (arith, later .before .before .before .before .before .before .before .before .before)
 
 loop-again : tie.Need-loop-again Inv-loop μ-loop
 loop-again c =
-    let inv = c .before .before .before .before .before .before .before .before .before .before .before .before .before .before .before .before .before .before .before .before .before .before .loop .inv in
     let done = c .before .before .before .before .before .before in
+    let later = done .before .before .before .before .before .before .before .before in
+    let inv = later .before .before .before .before .before .before .before .before .loop .inv in
     (omega (arith, inv), omega (arith, inv, done), omega (arith, inv, done))
 
 slice-aggregate-block-answered : tie.Need-slice-aggregate-block-answered Inv-loop μ-loop
@@ -90,7 +96,7 @@ answer-all-spec =
     start-requires
     block-read-requires
     loop-holds
-    least-requires
+    lesser-requires
     sub-block-answered
     part-block-answered-start
     part-block-answered-end

@@ -8,10 +8,12 @@ use Rattle.terminal.proofs.block_answered.Statement.{statement}
 use Rattle.terminal.proofs.block_answered.Tie as tie
 
 abbrev Inv-loop : tie.InvT-loop
-Inv-loop board₀ block line₀ held₀ out₀ request₀ voltages₀ said₀ from₀ end₀ board line held out request voltages said from end = (from ≤ end) × (length line ≡ length line₀) × (length out ≡ length out₀) × (300 ≡ length request) × (32 ≡ length voltages)
+Inv-loop board₀ block line₀ held₀ out₀ request₀ voltages₀ said₀ from₀ end₀ board line held out request voltages said from end =
+    (from ≤ end) × (length line ≡ length line₀) × (length out ≡ length out₀) × (300 ≡ length request) × (32 ≡ length voltages)
 
 abbrev μ-loop : tie.MeasureT-loop
-μ-loop board₀ block line₀ held₀ out₀ request₀ voltages₀ said₀ from₀ end₀ board line held out request voltages said from end = length block - end
+μ-loop board₀ block line₀ held₀ out₀ request₀ voltages₀ said₀ from₀ end₀ board line held out request voltages said from end =
+    length block - end
 
 line-end-requires : tie.Need-line-end-requires Inv-loop μ-loop
 line-end-requires c κs = tt

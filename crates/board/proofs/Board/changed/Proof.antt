@@ -1,5 +1,5 @@
 -- By cases on what is asked. Assumes nothing.
-use Rattle.board.specs.Frames.{changedBy}
+use Rattle.board.specs.Changes.{changedBy}
 use borrow.Author.Needs.{needs}
 use Rattle.board.proofs.Board.changed.Statement.{statement}
 use Rattle.board.proofs.Board.changed.Tie as tie

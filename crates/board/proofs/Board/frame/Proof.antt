@@ -1,148 +1,106 @@
--- No usable board, then no room for a reply, then what the request asks. Assumes nothing.
-use mathlib.Core.Bool.{true, false}
-use mathlib.Core.Path.{_≡_}
-use Prim.Native.Nat.{_≤_}
+-- No board or no room leaves zeros; else the answer to the request. Assumes nothing.
+use mathlib.Core.Path.{_≡_, refl, sym, ap, _∙_}
+use mathlib.Core.Bool.{Bool, true, false, not, cond}
+use mathlib.Core.List.{List, [], _++_}
+use Prim.Native.Nat.{ℕ}
+use native.Mathlib.Omega.{arith}
 use lib.Dec.{ltb}
 use lib.ListN.{length}
-use borrow.Author.Tests.{not-true, not-false, lt-ltb, le-ltb, ne-eqb}
-use Rattle.board.specs.State.{usable}
-use Rattle.board.specs.Frames.{requestBoard, requestReply, frameNumber, frameBoard, frameReply}
-use native.Mathlib.Omega.{arith}
-use Rattle.wire.proofs.Writing.{whole}
-use Rattle.board.proofs.Replies.{reply-length}
-use denote.Ref.{now}
+use Rattle.refusals.specs.declared.Refusal.the-variants.{NoRoom, NoBoard}
+use Rattle.refusals.specs.declared.Outcome.{Outcome}
+use Rattle.refusals.specs.declared.Outcome.the-variants.{Done}
+use Rattle.refusals.specs.Refusals.{isDone, first}
+use Rattle.refusals.proofs.Rows.{done-is, off, andThen, first-append}
+use Rattle.replies.specs.Replies.{padded}
+use Rattle.replies.proofs.Writing.{whole}
 use Rattle.requests.specs.Requests.{requestOf}
+use Rattle.board.specs.declared.Answer.{Answer}
+use Rattle.board.specs.declared.Board.{Board}
+use Rattle.board.specs.State.{usable}
+use Rattle.board.specs.Line.{letGo}
+use Rattle.board.specs.Changes.{changedBy}
+use Rattle.board.specs.Calls.{frame, frameRows, shape, outcomeOf, boardBy, outcomeIn}
+use Rattle.board.specs.Promises.{roomRows, requestOutcome, Roomed, Leaves, Answered}
+use Rattle.board.proofs.Shape.{holds-on, not-true-false, not-false-true}
+use Rattle.board.proofs.Asked.{by-table, room-blank, blank, replied}
 use borrow.Author.Needs.{needs}
 use Rattle.board.proofs.Board.frame.Statement.{statement}
 use Rattle.board.proofs.Board.frame.Tie as tie
 
--- past the first test the board is usable
-good : (c : tie.Else1) → usable (c .before .before .before .before .args .self) ≡ true
-good c = let usable = c .before .is-usable in rw (← usable .ensures) (not-false (usable .result) (c .if1 .left))
+framed : (b : Board) (s : List ℕ) (room : ℕ) → outcomeIn b (frame s room) ≡ andThen (first (roomRows b room)) (requestOutcome b s)
+unfolding outcomeOf shape
+framed b s room = first-append (roomRows b room) (frameRows b s) ∙ ap (andThen (first (roomRows b room))) (sym (by-table b s))
 
--- past both tests, the board is usable and the buffer has room for any reply
-room : (c : tie.After-parsed) →
-    let args = c .before .before .before .before .before .before .args in
-    let s = now (args .request) in
-    (usable (args .self) ≡ true) × (ltb (length (now (args .reply))) 259 ≡ false) × (length (requestReply (args .self) s (requestOf s)) ≤ length (now (args .reply)))
-room c =
-    let else2 = c .before in
-    let args = else2 .before .before .before .before .before .args in
-    let s = now (args .request) in
-    (good (else2 .before), le-ltb _ 259 (else2 .if2 .left), omega (arith, reply-length (args .self) s (requestOf s)))
+-- the board after it is what the request changes
+changes : (b : Board) (s : List ℕ) (room : ℕ) (o : Outcome)
+    → cond (isDone o) (changedBy b s (requestOf s)) b ≡ boardBy b (shape (frame s room)) o
+unfolding shape boardBy
+changes b s room o =
+    ap (λ (t : Bool). cond (isDone o) (changedBy b s (requestOf s)) (cond t (letGo b) b)) (sym (holds-on b (shape (frame s room)) o refl))
 
-is-usable-requires : tie.Need-is-usable-requires
-is-usable-requires c κs = search needs
+module _ (b : Board) (s : List ℕ) {before after : List ℕ} {r : Answer} {o : Outcome} {t : Bool} (told : Roomed b (length before) o)
+    (tested : t ≡ isDone o) where
+  unanswered : not t ≡ true → r ≡ record { outcome = o; board = b } → after ≡ padded (length before) []
+      → Leaves b (frame s (length before)) before r after
+  unfolding shape
+  unanswered f p q =
+      blank {c = frame s (length before)} (first (roomRows b (length before))) refl (framed b s (length before)) (told .outcome)
+      (room-blank b (length before) (sym (ap isDone (told .outcome)) ∙ sym tested ∙ not-true-false t f)) p q
+
+  answers : not t ≡ false → Answered b s before r after → Leaves b (frame s (length before)) before r after
+  unfolding shape
+  answers f a =
+      let d : first (roomRows b (length before)) ≡ Done = sym (told .outcome) ∙ done-is o (sym tested ∙ not-false-true t f) in
+      let room = off NoRoom (ltb (length before) 259) [] (off NoBoard (not (usable b)) _ d .1) .0 in
+      replied {c = frame s (length before)} (first (roomRows b (length before))) refl (framed b s (length before)) d room
+      (changes b s (length before) (requestOutcome b s)) (a .answer) (a .reply)
+
+has-room-requires : tie.Need-has-room-requires
+has-room-requires c κs = search needs
+
+is-done-requires : tie.Need-is-done-requires
+is-done-requires c κs = search needs
 
 zero-from-requires : tie.Need-zero-from-requires
 zero-from-requires c κs = search needs
 
-with-number-requires : tie.Need-with-number-requires
-with-number-requires c κs = search needs
+with-outcome-requires : tie.Need-with-outcome-requires
+with-outcome-requires c κs = search needs
 
 same-length : tie.Need-same-length
 same-length c = search needs
 
 returns : tie.Need-returns
-unfolding frameNumber frameBoard frameReply
 returns c =
     let zero = c .before .before .before in
     let then1 = zero .before .before in
-    let usable = then1 .before .is-usable in
-    let none = rw (usable .ensures) at (not-true (usable .result) (then1 .if1 .taken)) in
-    let told = c .with-number .ensures in
-    record { number = rw (told, none); board = rw (told, none); reply = rw none (whole (zero .zero-from .ensures) (omega arith)) }
+    let tested = then1 .before in
+    unanswered _ _ (tested .before .has-room .ensures) (tested .is-done .ensures) (then1 .if1 .taken) (c .with-outcome .ensures)
+    (whole (zero .zero-from .ensures) (omega arith))
 
-zero-from-requires-2 : tie.Need-zero-from-requires-2
-zero-from-requires-2 c κs = search needs
-
-with-number-requires-2 : tie.Need-with-number-requires-2
-with-number-requires-2 c κs = search needs
+answered-requires : tie.Need-answered-requires
+answered-requires c κs = search needs
 
 same-length-2 : tie.Need-same-length-2
 same-length-2 c = search needs
 
 returns-2 : tie.Need-returns-2
-unfolding frameNumber frameBoard frameReply
 returns-2 c =
-    let zero = c .before .before .before in
-    let then2 = zero .before .before in
-    let some = good (then2 .before) in
-    let small = lt-ltb _ 259 (then2 .if2 .taken) in
-    let told = c .with-number2 .ensures in
-    record { number = rw (told, some, small); board = rw (told, some, small); reply = rw (some, small) (whole (zero .zero-from2 .ensures) (omega arith)) }
-
-parsed-requires : tie.Need-parsed-requires
-parsed-requires c κs = search needs
-
-reply-requires : tie.Need-reply-requires
-reply-requires c κs = search needs
-
-with-number-requires-3 : tie.Need-with-number-requires-3
-with-number-requires-3 c κs = search needs
-
-same-length-3 : tie.Need-same-length-3
-same-length-3 c = search needs
-
-returns-3 : tie.Need-returns-3
-unfolding frameNumber frameBoard frameReply requestBoard
-returns-3 c =
-    let then3 = c .before in
-    let call = then3 .before .before .before in
-    let parsed = call .before .before in
-    let (some, large, fits) = room parsed in
-    let told = rw (parsed .parsed .ensures) at (call .reply3 .ensures) in
-    let number = c .with-number3 .ensures in
-    record {
-      number = rw (number, some, large) (told .number-is);
-      board = rw (number, some, large, ← told .number-is, ne-eqb _ _ (then3 .if3 .taken));
-      reply = rw (some, large) (whole (told .reply-is) fits);
-    }
-
-changed-requires : tie.Need-changed-requires
-changed-requires c κs = search needs
-
-with-number-requires-4 : tie.Need-with-number-requires-4
-with-number-requires-4 c κs = search needs
-
-same-length-4 : tie.Need-same-length-4
-same-length-4 c = search needs
-
-returns-4 : tie.Need-returns-4
-unfolding frameNumber frameBoard frameReply requestBoard
-returns-4 c =
-    let changed = c .before in
-    let else3 = changed .before in
-    let call = else3 .before .before .before in
-    let parsed = call .before .before in
-    let (some, large, fits) = room parsed in
-    let told = rw (parsed .parsed .ensures) at (call .reply3 .ensures) in
-    let number = c .with-number4 .ensures in
-    record {
-      number = rw (number, some, large, ← told .number-is, else3 .if3 .left);
-      board = rw (number, some, large, ← told .number-is, else3 .if3 .left, changed .changed .ensures, parsed .parsed .ensures);
-      reply = rw (some, large) (whole (told .reply-is) fits);
-    }
+    let answer = c .before .before in
+    let else1 = answer .before .before in
+    let tested = else1 .before in
+    answers _ _ (tested .before .has-room .ensures) (tested .is-done .ensures) (else1 .if1 .left) (answer .answered .ensures)
 
 pub frame-spec : {M : Type 1} → statement M
 frame-spec =
     tie.close
     (tie.spec
-    is-usable-requires
+    has-room-requires
+    is-done-requires
     zero-from-requires
-    with-number-requires
+    with-outcome-requires
     same-length
     returns
-    zero-from-requires-2
-    with-number-requires-2
+    answered-requires
     same-length-2
-    returns-2
-    parsed-requires
-    reply-requires
-    with-number-requires-3
-    same-length-3
-    returns-3
-    changed-requires
-    with-number-requires-4
-    same-length-4
-    returns-4)
+    returns-2)

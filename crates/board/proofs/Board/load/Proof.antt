@@ -1,34 +1,54 @@
 -- A board that is none is refused; else the events are those that the load leaves. Assumes nothing.
-use mathlib.Core.Bool.{Bool, false, not}
+use mathlib.Core.Path.{_≡_, refl, sym, ap, _∙_}
+use mathlib.Core.Bool.{Bool, true, false, cond}
 use mathlib.Core.List.{List}
-use mathlib.Core.Path.{_≡_, sym, _∙_}
 use Prim.Native.Nat.{ℕ}
-use borrow.Author.Tests.{not-true, not-false}
-use borrow.Author.Needs.{needs}
-use Rattle.events.specs.Memory as events
+use Rattle.refusals.specs.declared.Outcome.{Outcome}
+use Rattle.refusals.specs.Refusals.{isDone, first}
+use Rattle.events.specs.Area.{loadRows, eventsIn, listOf}
+use Rattle.events.specs.Area as events
 use Rattle.board.specs.declared.Answer.{Answer}
 use Rattle.board.specs.declared.Board.{Board}
 use Rattle.board.specs.State.{usable, withEvents}
-use Rattle.board.specs.Memory.{loadOf}
+use Rattle.board.specs.Line.{letGo}
+use Rattle.board.specs.Calls.{load, shape, boardBy, answerTo}
+use Rattle.board.proofs.Shape.{by-rows, no-board, some-board, none, answered, holds-on}
+use borrow.Author.Needs.{needs}
 use Rattle.board.proofs.Board.load.Statement.{statement}
 use Rattle.board.proofs.Board.load.Tie as tie
 
-loaded : (b : Board) (area : List ℕ) (test : Bool) → test ≡ usable b → not test ≡ false
-    → _≡_ {A = Answer} (record { number = events.loadOf (b .hire .events) area .number; board = withEvents b (events.loadOf (b .hire .events) area .events) }) (loadOf b area)
-unfolding loadOf events.loadOf
-loaded b area test e u = rw (sym e ∙ not-false test u)
+loaded : (b : Board) (area : List ℕ) → usable b ≡ true
+    → _≡_ {A = Answer} (record {
+      outcome = events.loadOf (b .hire .events) area .outcome;
+      board = withEvents b (events.loadOf (b .hire .events) area .events);
+    }) (answerTo b (load area))
+unfolding events.loadOf shape boardBy
+loaded b area u =
+    answered b (load area) o _ (sym (by-rows b (shape (load area)) u))
+    (go (isDone o) ∙ ap (λ (t : Bool). cond (isDone o) (withEvents b (listOf (eventsIn area))) (cond t (letGo b) b))
+    (sym (holds-on b (shape (load area)) o refl)))
+  where
+    o : Outcome
+    o = first (loadRows area)
 
-is-usable-requires : tie.Need-is-usable-requires
-is-usable-requires c κs = search needs
+    go : (t : Bool) → withEvents b (cond t (listOf (eventsIn area)) (b .hire .events)) ≡ cond t (withEvents b (listOf (eventsIn area))) b
+    go true = refl
+    go false = refl
 
-with-number-requires : tie.Need-with-number-requires
-with-number-requires c κs = search needs
+outcome-requires : tie.Need-outcome-requires
+outcome-requires c κs = search needs
+
+is-done-requires : tie.Need-is-done-requires
+is-done-requires c κs = search needs
+
+with-outcome-requires : tie.Need-with-outcome-requires
+with-outcome-requires c κs = search needs
 
 returns : tie.Need-returns
-unfolding loadOf
 returns c =
-    let usable = c .before .before .is-usable in
-    rw (c .with-number .ensures, ← usable .ensures, not-true (usable .result) (c .before .if1 .taken))
+    let tested = c .before .before in
+    let (none-usable, is) = no-board _ (tested .before .outcome .ensures) (tested .is-done .ensures) (c .before .if1 .taken) in
+    c .with-outcome .ensures ∙ none _ (load _) _ is none-usable
 
 load-requires : tie.Need-load-requires
 load-requires c κs = search needs
@@ -39,25 +59,28 @@ with-events-requires c κs = search needs
 with-hire-requires : tie.Need-with-hire-requires
 with-hire-requires c κs = search needs
 
-with-number-requires-2 : tie.Need-with-number-requires-2
-with-number-requires-2 c κs = search needs
+with-outcome-requires-2 : tie.Need-with-outcome-requires-2
+with-outcome-requires-2 c κs = search needs
 
 returns-2 : tie.Need-returns-2
 returns-2 c =
     let events = c .before .before in
     let else1 = events .before .before in
-    let usable = else1 .before .is-usable in
-    rw (c .with-number2 .ensures, c .before .with-hire .ensures, events .with-events .ensures, events .before .load .ensures) (loaded _ _ (usable .result) (usable .ensures) (else1 .if1 .left))
+    let tested = else1 .before in
+    let (some, is) = some-board _ (tested .before .outcome .ensures) (tested .is-done .ensures) (else1 .if1 .left) in
+    rw (c .with-outcome2 .ensures, c .before .with-hire .ensures, events .with-events .ensures, events .before .load .ensures)
+    (loaded _ _ some)
 
 pub load-spec : {M : Type 1} → statement M
 load-spec =
     tie.close
     (tie.spec
-    is-usable-requires
-    with-number-requires
+    outcome-requires
+    is-done-requires
+    with-outcome-requires
     returns
     load-requires
     with-events-requires
     with-hire-requires
-    with-number-requires-2
+    with-outcome-requires-2
     returns-2)

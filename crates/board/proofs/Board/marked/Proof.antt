@@ -19,7 +19,13 @@ returns : tie.Need-returns
 returns c =
     let events = c .before in
     let then1 = events .before .before in
-    rw (c .with-hire .ensures, events .with-events .ensures, events .before .sent .ensures, ← then1 .before .marks .ensures, then1 .if1 .taken)
+    rw (
+      c .with-hire .ensures,
+      events .with-events .ensures,
+      events .before .sent .ensures,
+      ← then1 .before .marks .ensures,
+      then1 .if1 .taken,
+    )
 
 returns-2 : tie.Need-returns-2
 returns-2 c = rw (← c .before .marks .ensures, c .if1 .left)

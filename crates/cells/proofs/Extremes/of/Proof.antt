@@ -40,7 +40,8 @@ loop-less : tie.Need-loop-less Inv-loop μ-loop
 loop-less c = search needs
 
 loop-again : tie.Need-loop-again Inv-loop μ-loop
-loop-again c = let l = c .before .before .before .before .before .loop .inv in (next (l .0) (search needs) (c .before .before .lower .ensures), next (l .1) (search needs) (c .higher .ensures))
+loop-again c = let l = c .before .before .before .before .before .loop .inv in
+    (next (l .0) (search needs) (c .before .before .lower .ensures), next (l .1) (search needs) (c .higher .ensures))
 
 returns : tie.Need-returns Inv-loop μ-loop
 returns c = rw (done (c .before .loop .inv .0) (search needs), done (c .before .loop .inv .1) (search needs))

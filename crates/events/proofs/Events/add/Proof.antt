@@ -69,7 +69,8 @@ returns c =
     let new = c .before .before in
     let ended = new .before .before in
     let start = ended .before .before in
-    let moved = all-moved (capacity - 1) noEvent (eventAt (start .args .seconds) (start .args .number)) (ended .loop .inv .2) (ended .loop .inv .1) (omega arith) in
+    let moved = all-moved (capacity - 1) noEvent (eventAt (start .args .seconds) (start .args .number)) (ended .loop .inv .2)
+    (ended .loop .inv .1) (omega arith) in
     rw (new .at .ensures, moved, c .before .one-more .ensures, c .one-more2 .ensures)
 
 pub add-spec : {M : Type 1} → statement M

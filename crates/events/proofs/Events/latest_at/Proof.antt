@@ -24,11 +24,20 @@ array-copy-out-result c = search needs
 
 returns : tie.Need-returns
 unfolding latest
-returns c = let start = c .before .before .before .before in rw (c .before .before .before .from-end .ensures .0) (sym (getD-drop (capacity - start .args .count) (start .args .self .list) (start .args .n) noEvent))
+returns c =
+    let start = c .before .before .before .before in
+    rw (c .before .before .before .from-end .ensures .0)
+    (sym (getD-drop (capacity - start .args .count) (start .args .self .list) (start .args .n) noEvent))
 
 returns-2 : tie.Need-returns-2
 unfolding latest
-returns-2 c = let start = c .before .before in let l : length (start .args .self .list) ≡ capacity = length-from _ _ _ (start .args .self .list) capacity (start .good .0 .1 .1 .0 .1 .0 .1) in let e : capacity - start .args .count + start .args .n ≡ c .before .from-end .result + start .args .n = omega arith in sym (getD-drop (capacity - start .args .count) (start .args .self .list) (start .args .n) noEvent ∙ List·getD-eq-default (start .args .self .list) noEvent (omega arith))
+returns-2 c =
+    let start = c .before .before in
+    let l : length (start .args .self .list) ≡ capacity =
+    length-from _ _ _ (start .args .self .list) capacity (start .good .0 .1 .1 .0 .1 .0 .1) in
+    let e : capacity - start .args .count + start .args .n ≡ c .before .from-end .result + start .args .n = omega arith in
+    sym (getD-drop (capacity - start .args .count) (start .args .self .list) (start .args .n) noEvent
+    ∙ List·getD-eq-default (start .args .self .list) noEvent (omega arith))
 
 pub latest-at-spec : {M : Type 1} → statement M
 latest-at-spec =

@@ -23,12 +23,15 @@ kept-at-requires c κs = search needs
 returns : tie.Need-returns
 returns c =
     let start = c .before .before .before in
-    c .kept-at .ensures ∙ sym (saved-kept (start .args .self) (start .args .i) (length-from _ _ _ (start .args .self .list) capacity (start .good .0 .1 .1 .0 .1 .0 .1)) (omega arith))
+    c .kept-at .ensures
+    ∙ sym (saved-kept (start .args .self) (start .args .i)
+    (length-from _ _ _ (start .args .self .list) capacity (start .good .0 .1 .1 .0 .1 .0 .1)) (omega arith))
 
 returns-2 : tie.Need-returns-2
 returns-2 c =
     let start = c .before .before in
-    sym (saved-unused (start .args .self) (start .args .i) (length-from _ _ _ (start .args .self .list) capacity (start .good .0 .1 .1 .0 .1 .0 .1)) (omega arith) (omega arith))
+    sym (saved-unused (start .args .self) (start .args .i)
+    (length-from _ _ _ (start .args .self .list) capacity (start .good .0 .1 .1 .0 .1 .0 .1)) (omega arith) (omega arith))
 
 pub record-at-spec : {M : Type 1} → statement M
 record-at-spec =

@@ -15,15 +15,23 @@ events-of-requires c κs = search needs
 
 returns : tie.Need-returns
 unfolding eventOf
-returns c = let row = c .before in rw (row .events-of .ensures .0, ← row .before .before .of .ensures, ← row .before .of2 .ensures, c .if1 .taken)
+returns c =
+    let row = c .before in rw (row .events-of .ensures .0, ← row .before .before .of .ensures, ← row .before .of2 .ensures, c .if1 .taken)
 
 returns-2 : tie.Need-returns-2
 unfolding eventOf
-returns-2 c = let row = c .before .before in rw (row .events-of .ensures .1, ← row .before .before .of .ensures, ← row .before .of2 .ensures, c .before .if1 .left, c .if2 .taken)
+returns-2 c = let row = c .before .before in rw (
+  row .events-of .ensures .1,
+  ← row .before .before .of .ensures,
+  ← row .before .of2 .ensures,
+  c .before .if1 .left,
+  c .if2 .taken,
+)
 
 returns-3 : tie.Need-returns-3
 unfolding eventOf
-returns-3 c = let row = c .before .before in rw (← row .before .before .of .ensures, ← row .before .of2 .ensures, c .before .if1 .left, c .if2 .left)
+returns-3 c =
+    let row = c .before .before in rw (← row .before .before .of .ensures, ← row .before .of2 .ensures, c .before .if1 .left, c .if2 .left)
 
 pub event-spec : {M : Type 1} → statement M
 event-spec =

@@ -27,8 +27,16 @@ unfolding guardOf
 returns c =
     let latched = c .before in
     let recovers = latched .before in
-    rw (c .while-latched .ensures, latched .next2 .ensures, recovers .recovering .ensures, recovers .before .with-connected .ensures, recovers .before .before .next .ensures, recovers .before .before .before .holding .ensures)
+    rw (
+      c .while-latched .ensures,
+      latched .next2 .ensures,
+      recovers .recovering .ensures,
+      recovers .before .with-connected .ensures,
+      recovers .before .before .next .ensures,
+      recovers .before .before .before .holding .ensures,
+    )
 
 pub next-spec : {M : Type 1} → statement M
 next-spec =
-    tie.close (tie.spec holding-requires next-requires with-connected-requires recovering-requires next-requires-2 while-latched-requires returns)
+    tie.close (tie.spec holding-requires next-requires with-connected-requires recovering-requires next-requires-2 while-latched-requires
+    returns)

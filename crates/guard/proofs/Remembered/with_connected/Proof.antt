@@ -17,7 +17,10 @@ returns c =
     let fits = second .before .struct-told2 .given .1 .1 in
     let first = second .before .before in
     let start = first .before .before in
-    rw (told connected (start .args .readings .external1) (sfits-of (fits .0 .1)) (first .is-connected .ensures), told connected (start .args .readings .external2) (sfits-of (fits .1 .0 .1)) (second .is-connected2 .ensures))
+    rw (
+      told connected (start .args .readings .external1) (sfits-of (fits .0 .1)) (first .is-connected .ensures),
+      told connected (start .args .readings .external2) (sfits-of (fits .1 .0 .1)) (second .is-connected2 .ensures),
+    )
 
 pub with-connected-spec : {M : Type 1} → statement M
 with-connected-spec = tie.close (tie.spec is-connected-requires is-connected-requires-2 returns)

@@ -1,5 +1,5 @@
--- Each reading is kept as it is or as its call gives it, and the other fields stay. Assumes nothing.
-use mir.Syntax.{w16, w32}
+-- The readings are kept as they are, cells and live readings as their calls give them, and the other fields stay. Assumes nothing.
+use mir.Syntax.{w32}
 use borrow.Author.Needs.{needs}
 use Rattle.hire.specs.Tick.{readingsOf}
 use Rattle.signed.proofs.Read.{read}
@@ -18,20 +18,10 @@ measured-requires c κs = search needs
 returns : tie.Need-returns
 unfolding readingsOf
 returns c =
-    let measured = c .before in
-    let told = measured .before in
+    let told = c .before in
     let sum = told .before in
     let r = sum .before .before .before .args .readings in
-    let fits = c .struct-told2 .given .1 in
-    rw (
-      sum .before .kept .ensures,
-      measured .measured .ensures,
-      sum .sum .ensures .0,
-      read w32 (r .current) (told .struct-told .given .0 .1),
-      read w16 (r .internal) (fits .0 .1),
-      read w16 (r .external1) (fits .1 .0 .1),
-      read w16 (r .external2) (fits .1 .1 .0 .1),
-    )
+    rw (sum .before .kept .ensures, c .measured .ensures, sum .sum .ensures .0, read w32 (r .current) (told .struct-told .given .0 .1))
 
 pub keep-readings-spec : {M : Type 1} → statement M
 keep-readings-spec =

@@ -16,9 +16,12 @@ cleared-at-requires c κs = search needs
 none-requires-3 : tie.Need-none-requires-3
 none-requires-3 c κs = search needs
 
+none-requires-4 : tie.Need-none-requires-4
+none-requires-4 c κs = search needs
+
 returns : tie.Need-returns
 unfolding newHire
 returns c = cc
 
 pub new-spec : {M : Type 1} → statement M
-new-spec = tie.close (tie.spec none-requires none-requires-2 cleared-at-requires none-requires-3 returns)
+new-spec = tie.close (tie.spec none-requires none-requires-2 none-requires-3 cleared-at-requires none-requires-4 returns)

@@ -16,12 +16,18 @@ healthy : (c : tie.Else1) →
     let args = above .before .before .args in
     let r = args .readings in
     let high = above .is-above-800 .result in
-    statusFor (args .latched) r ≡ cond (r .charger && high) 0x91 (cond (not (r .charger) && high) 0x96 (cond (ltZ (r .current) (negsuc 799)) 0x93 0x97))
+    statusFor (args .latched) r
+    ≡ cond (r .charger && high) 0x91 (cond (not (r .charger) && high) 0x96 (cond (ltZ (r .current) (negsuc 799)) 0x93 0x97))
 unfolding statusFor
 healthy c =
     let above = c .before .before in
     let r = above .before .before .args .readings in
-    rw (← c .before .is-faulty .ensures, c .if1 .left, above .is-above-800 .ensures, read w32 (r .current) (above .before .struct-told .given .0 .1))
+    rw (
+      ← c .before .is-faulty .ensures,
+      c .if1 .left,
+      above .is-above-800 .ensures,
+      read w32 (r .current) (above .before .struct-told .given .0 .1),
+    )
 
 -- past those on a current above 800 mA
 idle : (c : tie.After-is-below-minus-800) →
@@ -32,7 +38,13 @@ idle c =
     let else2 = else3 .before .before in
     let else1 = else2 .before .before in
     let r = else1 .before .before .before .before .args .readings in
-    rw (healthy else1, else2 .if2 .left, else3 .if3 .left, c .is-below-minus-800 .ensures, read w32 (r .current) (c .before .struct-told2 .given .0 .1))
+    rw (
+      healthy else1,
+      else2 .if2 .left,
+      else3 .if3 .left,
+      c .is-below-minus-800 .ensures,
+      read w32 (r .current) (c .before .struct-told2 .given .0 .1),
+    )
 
 is-above-800-requires : tie.Need-is-above-800-requires
 is-above-800-requires c κs = search needs

@@ -17,7 +17,13 @@ divided-requires-2 : tie.Need-divided-requires-2
 divided-requires-2 c κs = search needs
 
 returns : tie.Need-returns
-returns c = rw (c .divided2 .ensures, c .before .whole-signed .ensures, c .before .before .divided .ensures, c .before .before .before .whole .ensures, toZ-ofZ (c .before .before .before .before .fits .current))
+returns c = rw (
+  c .divided2 .ensures,
+  c .before .whole-signed .ensures,
+  c .before .before .divided .ensures,
+  c .before .before .before .whole .ensures,
+  toZ-ofZ (c .before .before .before .before .fits .current),
+)
 
 pub measured-spec : {M : Type 1} → statement M
 measured-spec =

@@ -27,7 +27,15 @@ divided-requires : tie.Need-divided-requires
 divided-requires c κs = search needs
 
 returns-2 : tie.Need-returns-2
-returns-2 c = let start = c .before .before .before .before .before in let l : length (start .args .t1) ≤ 16 = search needs in let s : take 16 (start .args .t1) ≡ start .args .t1 = take-all 16 (start .args .t1) l in simp (ne-eqb _ _ (c .before .before .before .before .if1 .left), c .divided .ensures, c .before .whole .ensures, c .before .before .sum .ensures .0, s)
+returns-2 c = let start = c .before .before .before .before .before in let l : length (start .args .t1) ≤ 16 = search needs in
+    let s : take 16 (start .args .t1) ≡ start .args .t1 = take-all 16 (start .args .t1) l in
+    simp (
+      ne-eqb _ _ (c .before .before .before .before .if1 .left),
+      c .divided .ensures,
+      c .before .whole .ensures,
+      c .before .before .sum .ensures .0,
+      s,
+    )
 
 pub over-spec : {M : Type 1} → statement M
 over-spec =

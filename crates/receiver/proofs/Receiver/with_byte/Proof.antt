@@ -26,8 +26,9 @@ returns-2 : tie.Need-returns-2
 unfolding withByte
 returns-2 c =
     let h = c .before .before in
-    rw (← h .length .ensures .0, c .before .if1 .left)
-    (stored (h .before .args .self) (h .before .args .byte) (h .length .result) (h .length .ensures .0) (omega (arith, h .before .pre, h .length .ensures .0, h .length .ensures .2)))
+    let n = h .length .ensures in
+    rw (← n .0, c .before .if1 .left)
+    (stored (h .before .args .self) (h .before .args .byte) (h .length .result) (n .0) (omega (arith, h .before .pre, n .0, n .2)))
 
 pub with-byte-spec : {M : Type 1} → statement M
 with-byte-spec =

@@ -66,7 +66,22 @@ returns-12 c = rw (c .match .keys12)
 
 returns-13 : tie.Need-returns-13
 unfolding registerOf
-returns-13 c = simp (ne-eqb _ _ (c .match .rest .1), ne-eqb _ _ (c .match .rest .0 .1), ne-eqb _ _ (c .match .rest .0 .0 .1), ne-eqb _ _ (c .match .rest .0 .0 .0 .1), ne-eqb _ _ (c .match .rest .0 .0 .0 .0 .1), ne-eqb _ _ (c .match .rest .0 .0 .0 .0 .0 .1), ne-eqb _ _ (c .match .rest .0 .0 .0 .0 .0 .0 .1), ne-eqb _ _ (c .match .rest .0 .0 .0 .0 .0 .0 .0 .1), ne-eqb _ _ (c .match .rest .0 .0 .0 .0 .0 .0 .0 .0 .1), ne-eqb _ _ (c .match .rest .0 .0 .0 .0 .0 .0 .0 .0 .0 .1), ne-eqb _ _ (c .match .rest .0 .0 .0 .0 .0 .0 .0 .0 .0 .0 .1), ne-eqb _ _ (c .match .rest .0 .0 .0 .0 .0 .0 .0 .0 .0 .0 .0 .1))
+returns-13 c =
+    let others = c .match .rest in
+    simp (
+      ne-eqb _ _ (others .1),
+      ne-eqb _ _ (others .0 .1),
+      ne-eqb _ _ (others .0 .0 .1),
+      ne-eqb _ _ (others .0 .0 .0 .1),
+      ne-eqb _ _ (others .0 .0 .0 .0 .1),
+      ne-eqb _ _ (others .0 .0 .0 .0 .0 .1),
+      ne-eqb _ _ (others .0 .0 .0 .0 .0 .0 .1),
+      ne-eqb _ _ (others .0 .0 .0 .0 .0 .0 .0 .1),
+      ne-eqb _ _ (others .0 .0 .0 .0 .0 .0 .0 .0 .1),
+      ne-eqb _ _ (others .0 .0 .0 .0 .0 .0 .0 .0 .0 .1),
+      ne-eqb _ _ (others .0 .0 .0 .0 .0 .0 .0 .0 .0 .0 .1),
+      ne-eqb _ _ (others .0 .0 .0 .0 .0 .0 .0 .0 .0 .0 .0 .1),
+    )
 
 pub register-spec : {M : Type 1} → statement M
 register-spec =

@@ -15,7 +15,8 @@ cast-result : tie.Need-cast-result
 cast-result c = search needs
 
 sub-result-2 : tie.Need-sub-result-2
-sub-result-2 c = rw (toZ-pos w32 {n = 2147483647 - c .before .args .value % 4294967296} (omega arith), minus-one-less) (record { sfits = omega arith })
+sub-result-2 c =
+    rw (toZ-pos w32 {n = 2147483647 - c .before .args .value % 4294967296} (omega arith), minus-one-less) (record { sfits = omega arith })
 
 cast-result-2 : tie.Need-cast-result-2
 cast-result-2 c = search needs

@@ -1,24 +1,43 @@
--- By how far the number goes. Assumes nothing.
+-- Each turn counts one digit, and those of the tenth part are left. Assumes nothing.
+use mathlib.Core.Path.{_≡_}
+use Prim.Native.Nat.{_+_, _/_}
 use native.Mathlib.Omega.{arith}
-use Rattle.text.proofs.Writing.{leading-one, leading-none, decimal-length}
+use lib.ListN.{length}
+use Rattle.text.specs.Digits.{decimalText}
+use Rattle.text.proofs.Decimal.{one-long, more-long, some-digit, twenty}
 use borrow.Author.Needs.{needs}
 use Rattle.text.proofs.digits.decimal_length.Statement.{statement}
 use Rattle.text.proofs.digits.decimal_length.Tie as tie
 
-returns : tie.Need-returns
-returns c = omega (arith, decimal-length (c .before .args .number), leading-none 10 (c .before .args .number) (search needs), leading-none 100 (c .before .args .number) (search needs), leading-none 1000 (c .before .args .number) (search needs), leading-none 10000 (c .before .args .number) (search needs))
+abbrev Inv-loop : tie.InvT-loop
+Inv-loop number count₀ left₀ count left = count + length (decimalText left) ≡ 1 + length (decimalText number)
 
-returns-2 : tie.Need-returns-2
-returns-2 c = omega (arith, decimal-length (c .before .before .args .number), leading-one 10 (c .before .before .args .number) (search needs), leading-none 100 (c .before .before .args .number) (search needs), leading-none 1000 (c .before .before .args .number) (search needs), leading-none 10000 (c .before .before .args .number) (search needs))
+abbrev μ-loop : tie.MeasureT-loop
+μ-loop number count₀ left₀ count left = left
 
-returns-3 : tie.Need-returns-3
-returns-3 c = omega (arith, decimal-length (c .before .before .before .args .number), leading-one 10 (c .before .before .before .args .number) (search needs), leading-one 100 (c .before .before .before .args .number) (search needs), leading-none 1000 (c .before .before .before .args .number) (search needs), leading-none 10000 (c .before .before .before .args .number) (search needs))
+loop-holds : tie.Need-loop-holds Inv-loop μ-loop
+loop-holds c = search needs
 
-returns-4 : tie.Need-returns-4
-returns-4 c = omega (arith, decimal-length (c .before .before .before .before .args .number), leading-one 10 (c .before .before .before .before .args .number) (search needs), leading-one 100 (c .before .before .before .before .args .number) (search needs), leading-one 1000 (c .before .before .before .before .args .number) (search needs), leading-none 10000 (c .before .before .before .before .args .number) (search needs))
+add-count : tie.Need-add-count Inv-loop μ-loop
+add-count c =
+    let number = c .before .before .args .number in
+    let long = more-long (c .before .loop .left) (search needs) in
+    let some = some-digit (c .before .loop .left / 10) in
+    let most = twenty number (search needs) in
+    search needs
 
-returns-5 : tie.Need-returns-5
-returns-5 c = omega (arith, decimal-length (c .before .before .before .before .args .number), leading-one 10 (c .before .before .before .before .args .number) (search needs), leading-one 100 (c .before .before .before .before .args .number) (search needs), leading-one 1000 (c .before .before .before .before .args .number) (search needs), leading-one 10000 (c .before .before .before .before .args .number) (search needs))
+loop-less : tie.Need-loop-less Inv-loop μ-loop
+loop-less c = search needs
+
+loop-again : tie.Need-loop-again Inv-loop μ-loop
+loop-again c = omega (arith, more-long (c .before .loop .left) (search needs))
+
+returns : tie.Need-returns Inv-loop μ-loop
+returns c =
+    let long = one-long (c .before .loop .left) (search needs) in
+    let most = twenty (c .before .before .args .number) (search needs) in
+    (omega arith, omega arith)
 
 pub decimal-length-spec : {M : Type 1} → statement M
-decimal-length-spec = tie.close (tie.spec returns returns-2 returns-3 returns-4 returns-5)
+decimal-length-spec =
+    tie.close (tie.spec Inv-loop μ-loop loop-holds add-count loop-less loop-again returns)

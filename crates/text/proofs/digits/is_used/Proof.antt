@@ -33,7 +33,11 @@ loop-less : tie.Need-loop-less Inv-loop μ-loop
 loop-less c = search needs
 
 loop-again : tie.Need-loop-again Inv-loop μ-loop
-loop-again c = (search needs, one-more-zero (c .before .before .before .args .bytes .now) (c .before .before .before .args .at) (c .before .before .loop .i) (c .before .before .loop .inv .1) (search needs))
+loop-again c = (
+  search needs,
+  one-more-zero (c .before .before .before .args .bytes .now) (c .before .before .before .args .at)
+      (c .before .before .loop .i) (c .before .before .loop .inv .1) (search needs),
+)
 
 returns : tie.Need-returns Inv-loop μ-loop
 returns c = λ e. let k : c .before .loop .i ≡ 16 = omega arith in rw k at (c .before .loop .inv .1 e)

@@ -28,7 +28,11 @@ loop-less : tie.Need-loop-less Inv-loop μ-loop
 loop-less c = search needs
 
 loop-again : tie.Need-loop-again Inv-loop μ-loop
-loop-again c = (search needs, sixteen-zeros (c .before .before .before .before .before .args .bytes .now) (c .before .before .before .loop .count) (search needs) (c .before .is-used .ensures (c .if1 .left)) (c .before .before .before .loop .inv .1))
+loop-again c = (
+  search needs,
+  sixteen-zeros (c .before .before .before .before .before .args .bytes .now) (c .before .before .before .loop .count)
+      (search needs) (c .before .is-used .ensures (c .if1 .left)) (c .before .before .before .loop .inv .1),
+)
 
 returns-2 : tie.Need-returns-2 Inv-loop μ-loop
 returns-2 c = let inv = c .before .loop .inv in (inv .1, inv .0)

@@ -12,10 +12,16 @@ has-room-requires : tie.Need-has-room-requires
 has-room-requires c κs = search needs
 
 slice-write-out : tie.Need-slice-write-out
-slice-write-out c = omega (arith, has (c .before .before .before .args .at + 1) (length (c .before .before .before .args .out .now)) (c .before .has-room .ensures) (c .if1 .taken))
+slice-write-out c =
+    omega (
+      arith,
+      has (c .before .before .before .args .at + 1) (length (c .before .before .before .args .out .now))
+          (c .before .has-room .ensures) (c .if1 .taken),
+    )
 
 add-result : tie.Need-add-result
-add-result c = let h = has (c .before .before .before .args .at + 1) (length (c .before .before .before .args .out .now)) (c .before .has-room .ensures) (c .if1 .taken) in search needs
+add-result c = let h = has (c .before .before .before .args .at + 1) (length (c .before .before .before .args .out .now))
+    (c .before .has-room .ensures) (c .if1 .taken) in search needs
 
 same-length : tie.Need-same-length
 same-length c = search needs

@@ -10,16 +10,21 @@ has-room-for-all-requires : tie.Need-has-room-for-all-requires
 has-room-for-all-requires c κs = search needs
 
 write-bytes-requires : tie.Need-write-bytes-requires
-write-bytes-requires c κs = let args = c .before .before .before .before .before .args in has (args .at + 3 * length (args .bytes .now)) (length (args .out .now)) (c .before .before .has-room-for-all .ensures) (c .before .if1 .taken)
+write-bytes-requires c κs = let args = c .before .before .before .before .before .args in
+    has (args .at + 3 * length (args .bytes .now)) (length (args .out .now)) (c .before .before .has-room-for-all .ensures)
+    (c .before .if1 .taken)
 
 same-length : tie.Need-same-length
 same-length c = search needs
 
 returns : tie.Need-returns
-returns c = let args = c .before .before .before .before .before .before .before .before .args in put-room (3 * length (args .bytes .now)) (c .before .before .write-bytes .ensures) (bytes-length (args .bytes .now)) (c .before .before .before .before .before .has-room-for-all .ensures) (c .before .before .before .before .if1 .taken)
+returns c = let args = c .before .before .before .before .before .before .before .before .args in
+    put-room (3 * length (args .bytes .now)) (c .before .before .write-bytes .ensures) (bytes-length (args .bytes .now))
+    (c .before .before .before .before .before .has-room-for-all .ensures) (c .before .before .before .before .if1 .taken)
 
 returns-2 : tie.Need-returns-2
-returns-2 c = let args = c .before .before .before .before .args in put-none (3 * length (args .bytes .now)) (bytes-length (args .bytes .now)) (c .before .has-room-for-all .ensures) (c .if1 .left)
+returns-2 c = let args = c .before .before .before .before .args in
+    put-none (3 * length (args .bytes .now)) (bytes-length (args .bytes .now)) (c .before .has-room-for-all .ensures) (c .if1 .left)
 
 pub put-bytes-spec : {M : Type 1} → statement M
 put-bytes-spec =

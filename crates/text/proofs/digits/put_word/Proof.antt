@@ -15,19 +15,33 @@ cast-write-byte : tie.Need-cast-write-byte
 cast-write-byte c = search needs
 
 write-byte-requires : tie.Need-write-byte-requires
-write-byte-requires c κs = omega (arith, has (c .before .before .before .before .args .at + 4) (length (c .before .before .before .before .args .out .now)) (c .before .before .has-room .ensures) (c .before .if1 .taken))
+write-byte-requires c κs =
+    omega (
+      arith,
+      has (c .before .before .before .before .args .at + 4) (length (c .before .before .before .before .args .out .now))
+          (c .before .before .has-room .ensures) (c .before .if1 .taken),
+    )
 
 cast-write-byte-2 : tie.Need-cast-write-byte-2
 cast-write-byte-2 c = search needs
 
 write-byte-requires-2 : tie.Need-write-byte-requires-2
-write-byte-requires-2 c κs = omega (arith, has (c .before .before .before .before .before .before .before .before .args .at + 4) (length (c .before .before .before .before .before .before .before .before .args .out .now)) (c .before .before .before .before .before .before .has-room .ensures) (c .before .before .before .before .before .if1 .taken))
+write-byte-requires-2 c κs =
+    omega (
+      arith,
+      has (c .before .before .before .before .before .before .before .before .args .at + 4)
+          (length (c .before .before .before .before .before .before .before .before .args .out .now))
+          (c .before .before .before .before .before .before .has-room .ensures) (c .before .before .before .before .before .if1 .taken),
+    )
 
 same-length : tie.Need-same-length
 same-length c = search needs
 
 returns : tie.Need-returns
-returns c = put-room 4 (join (c .before .before .before .before .before .before .write-byte .ensures) (c .before .before .write-byte2 .ensures)) refl (c .before .before .before .before .before .before .before .before .before .has-room .ensures) (c .before .before .before .before .before .before .before .before .if1 .taken)
+returns c =
+    put-room 4 (join (c .before .before .before .before .before .before .write-byte .ensures) (c .before .before .write-byte2 .ensures))
+    refl (c .before .before .before .before .before .before .before .before .before .has-room .ensures)
+    (c .before .before .before .before .before .before .before .before .if1 .taken)
 
 returns-2 : tie.Need-returns-2
 returns-2 c = put-none 4 refl (c .before .has-room .ensures) (c .if1 .left)

@@ -28,7 +28,11 @@ shared-slice-read-if1 : tie.Need-shared-slice-read-if1 Inv-loop μ-loop
 shared-slice-read-if1 c = search needs
 
 returns : tie.Need-returns Inv-loop μ-loop
-returns c = (sym (last-used (c .before .before .before .before .before .before .args .bytes .now) (c .before .before .before .loop .count) (search needs) (search needs) (c .if1 .taken)) ∙ c .before .before .before .loop .inv .1, search needs)
+returns c = (
+  sym (last-used (c .before .before .before .before .before .before .args .bytes .now) (c .before .before .before .loop .count)
+      (search needs) (search needs) (c .if1 .taken)) ∙ c .before .before .before .loop .inv .1,
+  search needs,
+)
 
 sub-count : tie.Need-sub-count Inv-loop μ-loop
 sub-count c = search needs
@@ -37,10 +41,15 @@ loop-less : tie.Need-loop-less Inv-loop μ-loop
 loop-less c = search needs
 
 loop-again : tie.Need-loop-again Inv-loop μ-loop
-loop-again c = (search needs, last-zero (c .before .before .before .before .before .before .args .bytes .now) (c .before .before .before .loop .count) (search needs) (search needs) (c .if1 .left) ∙ c .before .before .before .loop .inv .1)
+loop-again c = (
+  search needs,
+  last-zero (c .before .before .before .before .before .before .args .bytes .now) (c .before .before .before .loop .count)
+      (search needs) (search needs) (c .if1 .left) ∙ c .before .before .before .loop .inv .1,
+)
 
 returns-2 : tie.Need-returns-2 Inv-loop μ-loop
-returns-2 c = let none : c .before .loop .count ≡ 0 = omega arith in (ap (λ (n : ℕ). used (take n (c .before .before .before .before .args .bytes .now))) (sym none) ∙ c .before .loop .inv .1, search needs)
+returns-2 c = let none : c .before .loop .count ≡ 0 = omega arith in
+    (ap (λ (n : ℕ). used (take n (c .before .before .before .before .args .bytes .now))) (sym none) ∙ c .before .loop .inv .1, search needs)
 
 pub without-zeros-spec : {M : Type 1} → statement M
 without-zeros-spec =

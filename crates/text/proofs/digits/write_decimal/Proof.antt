@@ -1,51 +1,79 @@
--- One digit after the other. Assumes nothing.
-use mathlib.Core.Path.{ap, _∙_}
+-- Each turn writes the last digit of what is left of the number. Assumes nothing.
+use mathlib.Core.Path.{_≡_, refl}
+use Prim.Native.Nat.{_/_}
 use native.Mathlib.Omega.{arith}
 use lib.ListN.{length}
-use lib.Seq.{length-sets}
-use Rattle.text.specs.Digits.{decimalText}
-use Rattle.text.proofs.Writing.{decimal-length, decimal-wrote}
+use Rattle.text.proofs.Decimal.{Writing, begun, one-more, first-digit, some-digit, more-long}
 use borrow.Author.Needs.{needs}
 use Rattle.text.proofs.digits.write_decimal.Statement.{statement}
 use Rattle.text.proofs.digits.write_decimal.Tie as tie
 
-write-leading-requires : tie.Need-write-leading-requires
-write-leading-requires c κs = (omega arith, omega (arith, decimal-length (c .before .before .args .number)))
+abbrev Inv-loop : tie.InvT-loop
+Inv-loop out₀ at number count rest₀ place₀ out rest place = (length out ≡ length out₀) × Writing out₀ at number rest place out
 
-write-leading-requires-2 : tie.Need-write-leading-requires-2
-write-leading-requires-2 c κs = (omega arith, omega (arith, decimal-length (c .before .before .before .before .before .before .args .number)))
+abbrev μ-loop : tie.MeasureT-loop
+μ-loop out₀ at number count rest₀ place₀ out rest place = rest
 
-write-leading-requires-3 : tie.Need-write-leading-requires-3
-write-leading-requires-3 c κs = (omega arith, omega (arith, decimal-length (c .before .before .before .before .before .before .before .before .before .before .args .number)))
+add-place : tie.Need-add-place Inv-loop μ-loop
+add-place c = search needs
 
-write-leading-requires-4 : tie.Need-write-leading-requires-4
-write-leading-requires-4 c κs = (omega arith, omega (arith, decimal-length (c .before .before .before .before .before .before .before .before .before .before .before .before .before .before .args .number)))
+sub-place : tie.Need-sub-place Inv-loop μ-loop
+sub-place c = let some = some-digit (c .before .args .number) in search needs
 
-last-digit-requires : tie.Need-last-digit-requires
+loop-holds : tie.Need-loop-holds Inv-loop μ-loop
+loop-holds c = let some = some-digit (c .before .args .number) in (refl, begun (omega arith))
+
+last-digit-requires : tie.Need-last-digit-requires Inv-loop μ-loop
 last-digit-requires c κs = search needs
 
-slice-write-out : tie.Need-slice-write-out
-slice-write-out c = omega (arith, decimal-length (c .before .before .before .before .before .before .before .before .before .before .before .before .before .before .before .before .before .before .args .number))
+slice-write-out : tie.Need-slice-write-out Inv-loop μ-loop
+slice-write-out c = omega (arith, c .before .before .loop .inv .1 .ends, c .before .before .loop .inv .1 .within)
 
-add-result : tie.Need-add-result
-add-result c = let h = decimal-length (c .before .before .before .before .before .before .before .before .before .before .before .before .before .before .before .before .before .before .args .number) in search needs
+sub-place-2 : tie.Need-sub-place-2 Inv-loop μ-loop
+sub-place-2 c =
+    let rest = c .before .before .loop .rest in
+    let long = more-long rest (search needs) in
+    let some = some-digit (rest / 10) in
+    let ends = c .before .before .loop .inv .1 .ends in
+    search needs
 
-same-length : tie.Need-same-length
-same-length c = let args = c .before .before .before .before .before .before .before .before .before .before .before .before .before .before .before .before .before .before .args in ap length ((decimal-wrote (c .before .before .before .before .before .before .before .before .before .before .before .before .before .before .before .before .before .before .args .number) (c .before .before .before .before .before .before .before .before .before .before .before .before .before .before .before .write-leading .ensures) (c .before .before .before .before .before .before .before .before .before .before .before .write-leading2 .ensures) (c .before .before .before .before .before .before .before .write-leading3 .ensures) (c .before .before .before .write-leading4 .ensures) (c .last-digit .ensures)) .bytes) ∙ length-sets (args .out .now) (args .at) (decimalText (args .number))
+loop-less : tie.Need-loop-less Inv-loop μ-loop
+loop-less c = search needs
 
-returns : tie.Need-returns
-returns c = decimal-wrote (c .before .before .before .before .before .before .before .before .before .before .before .before .before .before .before .before .before .before .args .number) (c .before .before .before .before .before .before .before .before .before .before .before .before .before .before .before .write-leading .ensures) (c .before .before .before .before .before .before .before .before .before .before .before .write-leading2 .ensures) (c .before .before .before .before .before .before .before .write-leading3 .ensures) (c .before .before .before .write-leading4 .ensures) (c .last-digit .ensures)
+loop-again : tie.Need-loop-again Inv-loop μ-loop
+loop-again c = (search needs, one-more (c .before .before .loop .inv .1) (c .last-digit .ensures) (search needs))
+
+last-digit-requires-2 : tie.Need-last-digit-requires-2 Inv-loop μ-loop
+last-digit-requires-2 c κs = search needs
+
+slice-write-out-2 : tie.Need-slice-write-out-2 Inv-loop μ-loop
+slice-write-out-2 c = omega (arith, some-digit (c .before .before .before .before .args .number))
+
+add-result : tie.Need-add-result Inv-loop μ-loop
+add-result c = search needs
+
+same-length : tie.Need-same-length Inv-loop μ-loop
+same-length c = search needs
+
+returns : tie.Need-returns Inv-loop μ-loop
+returns c = first-digit (c .before .before .loop .inv .1) (c .last-digit2 .ensures) (search needs) (search needs)
 
 pub write-decimal-spec : {M : Type 1} → statement M
 write-decimal-spec =
     tie.close
     (tie.spec
-    write-leading-requires
-    write-leading-requires-2
-    write-leading-requires-3
-    write-leading-requires-4
+    Inv-loop
+    μ-loop
+    add-place
+    sub-place
+    loop-holds
     last-digit-requires
     slice-write-out
+    sub-place-2
+    loop-less
+    loop-again
+    last-digit-requires-2
+    slice-write-out-2
     add-result
     same-length
     returns)

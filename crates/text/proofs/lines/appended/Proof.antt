@@ -30,7 +30,11 @@ loop-less : tie.Need-loop-less Inv-loop μ-loop
 loop-less c = search needs
 
 loop-again : tie.Need-loop-again Inv-loop μ-loop
-loop-again c = (search needs, one-held (c .before .before .before .before .before .before .loop .inv .1) (c .before .before .held-byte .ensures) (search needs))
+loop-again c = (
+  search needs,
+  one-held (c .before .before .before .before .before .before .loop .inv .1) (c .before .before .held-byte .ensures)
+      (search needs),
+)
 
 same-length : tie.Need-same-length Inv-loop μ-loop
 same-length c = search needs

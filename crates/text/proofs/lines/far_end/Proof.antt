@@ -23,16 +23,24 @@ has-room-requires : tie.Need-has-room-requires Inv-loop μ-loop
 has-room-requires c κs = search needs
 
 has-end-requires : tie.Need-has-end-requires Inv-loop μ-loop
-has-end-requires c κs = has (c .before .before .loop .at + 16) (length (c .before .before .before .before .args .block .now)) (c .before .has-room .ensures) (c .if1 .taken)
+has-end-requires c κs = has (c .before .before .loop .at + 16) (length (c .before .before .before .before .args .block .now))
+    (c .before .has-room .ensures) (c .if1 .taken)
 
 returns : tie.Need-returns Inv-loop μ-loop
 returns c = c .before .before .before .before .loop .inv .same
 
 add-at : tie.Need-add-at Inv-loop μ-loop
-add-at c = let h = has (c .before .before .before .before .loop .at + 16) (length (c .before .before .before .before .before .before .args .block .now)) (c .before .before .before .has-room .ensures) (c .before .before .if1 .taken) in search needs
+add-at c = let h =
+    has (c .before .before .before .before .loop .at + 16) (length (c .before .before .before .before .before .before .args .block .now))
+    (c .before .before .before .has-room .ensures) (c .before .before .if1 .taken) in search needs
 
 loop-less : tie.Need-loop-less Inv-loop μ-loop
-loop-less c = omega (arith, has (c .before .before .before .before .loop .at + 16) (length (c .before .before .before .before .before .before .args .block .now)) (c .before .before .before .has-room .ensures) (c .before .before .if1 .taken))
+loop-less c =
+    omega (
+      arith,
+      has (c .before .before .before .before .loop .at + 16) (length (c .before .before .before .before .before .before .args .block .now))
+          (c .before .before .before .has-room .ensures) (c .before .before .if1 .taken),
+    )
 
 loop-again : tie.Need-loop-again Inv-loop μ-loop
 loop-again c = record { same = c .before .has-end .ensures (c .if2 .left) ∙ c .before .before .before .before .loop .inv .same }

@@ -19,7 +19,8 @@ returns : tie.Need-returns
 returns c = let args = c .before .before .args in with-room (args .line .now) (args .held) (args .byte) (search needs)
 
 returns-2 : tie.Need-returns-2
-returns-2 c = let args = c .before .before .before .args in too-small (args .line .now) (args .held) (args .byte) (search needs) (search needs)
+returns-2 c = let args = c .before .before .before .args in too-small (args .line .now) (args .held) (args .byte) (search needs)
+    (search needs)
 
 sub-last : tie.Need-sub-last
 sub-last c = search needs
@@ -49,7 +50,8 @@ same-length-2 : tie.Need-same-length-2
 same-length-2 c = simp length-set
 
 returns-3 : tie.Need-returns-3
-returns-3 c = let args = c .before .before .before .before .before .before .args in squeezed-in (args .line .now) (args .held) (args .byte) (search needs) (search needs) (c .no-space .ensures)
+returns-3 c = let args = c .before .before .before .before .before .before .args in
+    squeezed-in (args .line .now) (args .held) (args .byte) (search needs) (search needs) (c .no-space .ensures)
 
 pub held-byte-spec : {M : Type 1} → statement M
 held-byte-spec =

@@ -38,7 +38,8 @@ loop-less : tie.Need-loop-less Inv-loop μ-loop
 loop-less c = search needs
 
 loop-again : tie.Need-loop-again Inv-loop μ-loop
-loop-again c = (search needs, one-same (c .before .before .before .before .before .loop .inv .1) (search needs) (search needs) (c .if2 .left))
+loop-again c =
+    (search needs, one-same (c .before .before .before .before .before .loop .inv .1) (search needs) (search needs) (c .if2 .left))
 
 ends-word-requires : tie.Need-ends-word-requires Inv-loop μ-loop
 ends-word-requires c κs = search needs

@@ -9,7 +9,10 @@ wrong-requires : tie.Need-wrong-requires
 wrong-requires c κs = search needs
 
 returns : tie.Need-returns
-returns c = let args = c .before .before .before .args in (no-byte (args .line .now) (args .at) (search needs) (c .wrong .ensures .0), search needs)
+returns c = let args = c .before .before .before .args in (
+  no-byte (args .line .now) (args .at) (search needs) (c .wrong .ensures .0),
+  search needs,
+)
 
 add-second : tie.Need-add-second
 add-second c = search needs
@@ -18,7 +21,8 @@ wrong-requires-2 : tie.Need-wrong-requires-2
 wrong-requires-2 c κs = search needs
 
 returns-2 : tie.Need-returns-2
-returns-2 c = let args = c .before .before .before .before .args in (no-second (args .line .now) (args .at) (search needs) (search needs) (c .wrong2 .ensures .0), search needs)
+returns-2 c = let args = c .before .before .before .before .args in
+    (no-second (args .line .now) (args .at) (search needs) (search needs) (c .wrong2 .ensures .0), search needs)
 
 shared-slice-read-hex-digit : tie.Need-shared-slice-read-hex-digit
 shared-slice-read-hex-digit c = search needs
@@ -36,13 +40,21 @@ wrong-requires-3 : tie.Need-wrong-requires-3
 wrong-requires-3 c κs = search needs
 
 returns-3 : tie.Need-returns-3
-returns-3 c = let args = c .before .before .before .before .before .before .before .before .before .args in (wrong-first (args .line .now) (args .at) (search needs) (c .before .before .before .before .hex-digit .ensures) (c .before .before .hex-digit2 .ensures) (search needs) (c .wrong3 .ensures .0), search needs)
+returns-3 c = let args = c .before .before .before .before .before .before .before .before .before .args in (
+  wrong-first (args .line .now) (args .at) (search needs) (c .before .before .before .before .hex-digit .ensures)
+      (c .before .before .hex-digit2 .ensures) (search needs) (c .wrong3 .ensures .0),
+  search needs,
+)
 
 wrong-requires-4 : tie.Need-wrong-requires-4
 wrong-requires-4 c κs = search needs
 
 returns-4 : tie.Need-returns-4
-returns-4 c = let args = c .before .before .before .before .before .before .before .before .before .before .args in (wrong-second (args .line .now) (args .at) (search needs) (c .before .before .before .before .before .hex-digit .ensures) (c .before .before .before .hex-digit2 .ensures) (search needs) (c .wrong4 .ensures .0), search needs)
+returns-4 c = let args = c .before .before .before .before .before .before .before .before .before .before .args in (
+  wrong-second (args .line .now) (args .at) (search needs) (c .before .before .before .before .before .hex-digit .ensures)
+      (c .before .before .before .hex-digit2 .ensures) (search needs) (c .wrong4 .ensures .0),
+  search needs,
+)
 
 add-ends-word : tie.Need-add-ends-word
 add-ends-word c = search needs
@@ -63,13 +75,23 @@ add-t15 : tie.Need-add-t15
 add-t15 c = search needs
 
 returns-5 : tie.Need-returns-5
-returns-5 c = let args = c .before .before .before .before .before .before .before .before .before .before .before .args in (is-byte (args .line .now) (args .at) (search needs) (c .before .before .before .before .before .before .hex-digit .ensures) (c .before .before .before .before .hex-digit2 .ensures) (search needs) (search needs) (sym (c .before .ends-word .ensures) ∙ c .if5 .taken), search needs)
+returns-5 c = let args = c .before .before .before .before .before .before .before .before .before .before .before .args in (
+  is-byte (args .line .now) (args .at) (search needs) (c .before .before .before .before .before .before .hex-digit .ensures)
+      (c .before .before .before .before .hex-digit2 .ensures) (search needs) (search needs) (sym (c .before .ends-word .ensures)
+      ∙ c .if5 .taken),
+  search needs,
+)
 
 wrong-requires-5 : tie.Need-wrong-requires-5
 wrong-requires-5 c κs = search needs
 
 returns-6 : tie.Need-returns-6
-returns-6 c = let args = c .before .before .before .before .before .before .before .before .before .before .before .before .args in (too-long (args .line .now) (args .at) (search needs) (c .before .before .before .before .before .before .before .hex-digit .ensures) (c .before .before .before .before .before .hex-digit2 .ensures) (search needs) (search needs) (sym (c .before .before .ends-word .ensures) ∙ c .before .if5 .left) (c .wrong5 .ensures .0), search needs)
+returns-6 c = let args = c .before .before .before .before .before .before .before .before .before .before .before .before .args in (
+  too-long (args .line .now) (args .at) (search needs) (c .before .before .before .before .before .before .before .hex-digit .ensures)
+      (c .before .before .before .before .before .hex-digit2 .ensures) (search needs) (search needs)
+      (sym (c .before .before .ends-word .ensures) ∙ c .before .if5 .left) (c .wrong5 .ensures .0),
+  search needs,
+)
 
 pub byte-at-spec : {M : Type 1} → statement M
 byte-at-spec =

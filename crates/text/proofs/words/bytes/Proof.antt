@@ -34,7 +34,8 @@ same-length-2 : tie.Need-same-length-2 Inv-loop μ-loop
 same-length-2 c = search needs
 
 returns-2 : tie.Need-returns-2 Inv-loop μ-loop
-returns-2 c = wrong-word (c .before .before .before .before .before .loop .inv .1) (c .before .before .byte-at .ensures .0) (not-true _ (c .if2 .taken)) (search needs)
+returns-2 c = wrong-word (c .before .before .before .before .before .loop .inv .1) (c .before .before .byte-at .ensures .0)
+    (not-true _ (c .if2 .taken)) (search needs)
 
 cast-bytes : tie.Need-cast-bytes Inv-loop μ-loop
 cast-bytes c = search needs
@@ -52,7 +53,12 @@ loop-less : tie.Need-loop-less Inv-loop μ-loop
 loop-less c = search needs
 
 loop-again : tie.Need-loop-again Inv-loop μ-loop
-loop-again c = (search needs, one-entered (c .before .before .before .before .before .before .before .loop .inv .1) (c .before .before .before .before .byte-at .ensures .0) (not-false _ (c .before .before .if2 .left)) (c .next-word2 .ensures) (search needs) (search needs))
+loop-again c = (
+  search needs,
+  one-entered (c .before .before .before .before .before .before .before .loop .inv .1)
+      (c .before .before .before .before .byte-at .ensures .0) (not-false _ (c .before .before .if2 .left)) (c .next-word2 .ensures)
+      (search needs) (search needs),
+)
 
 same-length-3 : tie.Need-same-length-3 Inv-loop μ-loop
 same-length-3 c = search needs

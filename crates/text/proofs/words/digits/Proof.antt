@@ -27,7 +27,13 @@ taken-requires : tie.Need-taken-requires Inv-loop μ-loop
 taken-requires c κs = search needs
 
 returns : tie.Need-returns Inv-loop μ-loop
-returns c = (stopped (c .before .before .before .before .before .loop .inv) (c .taken .ensures .0) (search needs) (search needs) (a-digit (getD (c .before .before .before .before .before .before .before .args .line .now) (c .before .before .before .before .before .loop .at) 0) false (c .before .before .is-digit .ensures) (not-true _ (c .before .if1 .taken))), c .taken .ensures .1)
+returns c = (
+  stopped (c .before .before .before .before .before .loop .inv) (c .taken .ensures .0) (search needs) (search needs)
+      (a-digit (getD (c .before .before .before .before .before .before .before .args .line .now)
+      (c .before .before .before .before .before .loop .at) 0) false (c .before .before .is-digit .ensures)
+      (not-true _ (c .before .if1 .taken))),
+  c .taken .ensures .1,
+)
 
 shared-slice-read-with-digit : tie.Need-shared-slice-read-with-digit Inv-loop μ-loop
 shared-slice-read-with-digit c = search needs
@@ -42,7 +48,10 @@ loop-less : tie.Need-loop-less Inv-loop μ-loop
 loop-less c = search needs
 
 loop-again : tie.Need-loop-again Inv-loop μ-loop
-loop-again c = one-scanned (c .before .before .before .before .before .before .loop .inv) (c .with-digit .ensures) (search needs) (a-digit (getD (c .before .before .before .before .before .before .before .before .args .line .now) (c .before .before .before .before .before .before .loop .at) 0) true (c .before .before .before .is-digit .ensures) (not-false _ (c .before .before .if1 .left)))
+loop-again c = one-scanned (c .before .before .before .before .before .before .loop .inv) (c .with-digit .ensures) (search needs)
+    (a-digit (getD (c .before .before .before .before .before .before .before .before .args .line .now)
+    (c .before .before .before .before .before .before .loop .at) 0) true (c .before .before .before .is-digit .ensures)
+    (not-false _ (c .before .before .if1 .left)))
 
 taken-requires-2 : tie.Need-taken-requires-2 Inv-loop μ-loop
 taken-requires-2 c κs = search needs

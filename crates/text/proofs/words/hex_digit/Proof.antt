@@ -20,16 +20,25 @@ returns-3 : tie.Need-returns-3
 returns-3 c = hex-lower (c .before .before .before .before .before .before .args .code) (search needs) (search needs)
 
 returns-4 : tie.Need-returns-4
-returns-4 c = hex-none (c .before .args .code) (under 48 57 (c .before .args .code) (search needs)) (under 65 70 (c .before .args .code) (search needs)) (under 97 102 (c .before .args .code) (search needs))
+returns-4 c = hex-none (c .before .args .code) (under 48 57 (c .before .args .code) (search needs))
+    (under 65 70 (c .before .args .code) (search needs)) (under 97 102 (c .before .args .code) (search needs))
 
 returns-5 : tie.Need-returns-5
-returns-5 c = hex-none (c .before .before .before .args .code) (over 48 57 (c .before .before .before .args .code) (search needs)) (under 65 70 (c .before .before .before .args .code) (search needs)) (under 97 102 (c .before .before .before .args .code) (search needs))
+returns-5 c = hex-none (c .before .before .before .args .code) (over 48 57 (c .before .before .before .args .code) (search needs))
+    (under 65 70 (c .before .before .before .args .code) (search needs))
+    (under 97 102 (c .before .before .before .args .code) (search needs))
 
 returns-6 : tie.Need-returns-6
-returns-6 c = hex-none (c .before .before .before .before .before .args .code) (over 48 57 (c .before .before .before .before .before .args .code) (search needs)) (over 65 70 (c .before .before .before .before .before .args .code) (search needs)) (under 97 102 (c .before .before .before .before .before .args .code) (search needs))
+returns-6 c = hex-none (c .before .before .before .before .before .args .code)
+    (over 48 57 (c .before .before .before .before .before .args .code) (search needs))
+    (over 65 70 (c .before .before .before .before .before .args .code) (search needs))
+    (under 97 102 (c .before .before .before .before .before .args .code) (search needs))
 
 returns-7 : tie.Need-returns-7
-returns-7 c = hex-none (c .before .before .before .before .before .before .args .code) (over 48 57 (c .before .before .before .before .before .before .args .code) (search needs)) (over 65 70 (c .before .before .before .before .before .before .args .code) (search needs)) (over 97 102 (c .before .before .before .before .before .before .args .code) (search needs))
+returns-7 c = hex-none (c .before .before .before .before .before .before .args .code)
+    (over 48 57 (c .before .before .before .before .before .before .args .code) (search needs))
+    (over 65 70 (c .before .before .before .before .before .before .args .code) (search needs))
+    (over 97 102 (c .before .before .before .before .before .before .args .code) (search needs))
 
 pub hex-digit-spec : {M : Type 1} → statement M
 hex-digit-spec =

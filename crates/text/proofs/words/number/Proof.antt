@@ -13,7 +13,8 @@ digits-requires : tie.Need-digits-requires
 digits-requires c κs = search needs
 
 returns : tie.Need-returns
-returns c = let args = c .before .before .before .args in (c .digits .ensures .0 ∙ ap (readAt (numberOf (args .most)) (args .line .now)) (c .before .next-word .ensures), search needs)
+returns c = let args = c .before .before .before .args in
+    (c .digits .ensures .0 ∙ ap (readAt (numberOf (args .most)) (args .line .now)) (c .before .next-word .ensures), search needs)
 
 pub number-spec : {M : Type 1} → statement M
 number-spec = tie.close (tie.spec next-word-requires digits-requires returns)

@@ -10,7 +10,8 @@ use Rattle.text.proofs.words.numbers.Statement.{statement}
 use Rattle.text.proofs.words.numbers.Tie as tie
 
 abbrev Inv-loop : tie.InvT-loop
-Inv-loop line from numbers₀ at₀ count₀ numbers at count = (length numbers ≡ length numbers₀) × Entering (numberOf 65535) line from numbers₀ at count numbers
+Inv-loop line from numbers₀ at₀ count₀ numbers at count = (length numbers ≡ length numbers₀)
+    × Entering (numberOf 65535) line from numbers₀ at count numbers
 
 abbrev μ-loop : tie.MeasureT-loop
 μ-loop line from numbers₀ at₀ count₀ numbers at count = length numbers₀ - count
@@ -34,7 +35,8 @@ same-length-2 : tie.Need-same-length-2 Inv-loop μ-loop
 same-length-2 c = search needs
 
 returns-2 : tie.Need-returns-2 Inv-loop μ-loop
-returns-2 c = wrong-word (c .before .before .before .before .before .loop .inv .1) (c .before .before .digits .ensures .0) (not-true _ (c .if2 .taken)) (search needs)
+returns-2 c = wrong-word (c .before .before .before .before .before .loop .inv .1) (c .before .before .digits .ensures .0)
+    (not-true _ (c .if2 .taken)) (search needs)
 
 cast-numbers : tie.Need-cast-numbers Inv-loop μ-loop
 cast-numbers c = search needs
@@ -55,7 +57,12 @@ loop-less : tie.Need-loop-less Inv-loop μ-loop
 loop-less c = search needs
 
 loop-again : tie.Need-loop-again Inv-loop μ-loop
-loop-again c = (search needs, one-entered (c .before .before .before .before .before .before .before .loop .inv .1) (c .before .before .before .before .digits .ensures .0) (not-false _ (c .before .before .if2 .left)) (c .next-word2 .ensures) (search needs) (search needs))
+loop-again c = (
+  search needs,
+  one-entered (c .before .before .before .before .before .before .before .loop .inv .1)
+      (c .before .before .before .before .digits .ensures .0) (not-false _ (c .before .before .if2 .left)) (c .next-word2 .ensures)
+      (search needs) (search needs),
+)
 
 same-length-3 : tie.Need-same-length-3 Inv-loop μ-loop
 same-length-3 c = search needs

@@ -1,0 +1,77 @@
+-- Numbers the caller gets. A call has rows, each a refusal and whether it applies; the first that applies is given, and where none does the
+-- call is done.
+-- Assumes nothing.
+use mathlib.Core.Bool.{Bool, true, false, cond}
+use mathlib.Core.List.{List, [], _∷_}
+use Prim.Native.Nat.{ℕ}
+use Rattle.refusals.specs.declared.Refusal.{Refusal}
+use Rattle.refusals.specs.declared.Refusal.the-variants.{NoRoom, Foreign, Damaged, UnknownCommand, WrongLength, WrongField}
+use Rattle.refusals.specs.declared.Refusal.the-variants.{OutOfRange, OutOfOrder, TooLong, FrameHeld, NoFrameHeld}
+use Rattle.refusals.specs.declared.Refusal.the-variants.{WrongCells, WrongCurrent, NoInternal, WrongPulses, NoBoard, WrongArea}
+use Rattle.refusals.specs.declared.Refusal.the-variants.{UsedAfterUnused, NeverRecorded, BadRecord, CutRecord}
+use Rattle.refusals.specs.declared.Left.{Left}
+use Rattle.refusals.specs.declared.Left.the-variants.{Zeros, Nack}
+use Rattle.refusals.specs.declared.Outcome.{Outcome}
+use Rattle.refusals.specs.declared.Outcome.the-variants.{Done, Refused}
+
+-- document 01: frames, ticks, a start; then W-201, W-205 and W-211 of document 02
+abbrev pub refusalNumber : Refusal → ℕ
+refusalNumber NoRoom = 1
+refusalNumber Foreign = 2
+refusalNumber Damaged = 3
+refusalNumber UnknownCommand = 4
+refusalNumber WrongLength = 4
+refusalNumber WrongField = 4
+refusalNumber (OutOfRange register) = 4
+refusalNumber OutOfOrder = 4
+refusalNumber TooLong = 5
+refusalNumber FrameHeld = 6
+refusalNumber NoFrameHeld = 7
+refusalNumber WrongCells = 11
+refusalNumber WrongCurrent = 12
+refusalNumber NoInternal = 13
+refusalNumber WrongPulses = 14
+refusalNumber NoBoard = 21
+refusalNumber WrongArea = 31
+refusalNumber UsedAfterUnused = 32
+refusalNumber NeverRecorded = 33
+refusalNumber BadRecord = 61
+refusalNumber CutRecord = 62
+
+-- what a refusal leaves in a lent reply buffer: a NACK, error 0x01 or 0x00, or zeros alone
+abbrev pub leftBy : Refusal → Left
+leftBy NoRoom = Zeros
+leftBy Foreign = Zeros
+leftBy Damaged = Nack 0x01
+leftBy UnknownCommand = Nack 0x00
+leftBy WrongLength = Nack 0x00
+leftBy WrongField = Nack 0x00
+leftBy (OutOfRange register) = Nack 0x00
+leftBy OutOfOrder = Nack 0x00
+leftBy TooLong = Nack 0x00
+leftBy FrameHeld = Zeros
+leftBy NoFrameHeld = Zeros
+leftBy WrongCells = Zeros
+leftBy WrongCurrent = Zeros
+leftBy NoInternal = Zeros
+leftBy WrongPulses = Zeros
+leftBy NoBoard = Zeros
+leftBy WrongArea = Zeros
+leftBy UsedAfterUnused = Zeros
+leftBy NeverRecorded = Zeros
+leftBy BadRecord = Zeros
+leftBy CutRecord = Zeros
+
+-- 0, done
+abbrev pub numberOf : Outcome → ℕ
+numberOf Done = 0
+numberOf (Refused refusal) = refusalNumber refusal
+
+abbrev pub isDone : Outcome → Bool
+isDone Done = true
+isDone (Refused refusal) = false
+
+-- rows stand from the lowest number on, so the first that applies is the lowest
+unfoldable pub first : List (Refusal × Bool) → Outcome
+first [] = Done
+first ((refusal, applies) ∷ rest) = cond applies (Refused refusal) (first rest)

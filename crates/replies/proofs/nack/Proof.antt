@@ -1,0 +1,29 @@
+-- Four bytes in a row, and the end. Assumes nothing.
+use Rattle.numbers.proofs.Writing.{two}
+use Rattle.replies.proofs.Writing.{reply}
+use borrow.Author.Needs.{needs}
+use Rattle.replies.proofs.nack.Statement.{statement}
+use Rattle.replies.proofs.nack.Tie as tie
+
+begin-requires : tie.Need-begin-requires
+begin-requires c κs = search needs
+
+put-byte-requires : tie.Need-put-byte-requires
+put-byte-requires c κs = search needs
+
+put-byte-requires-2 : tie.Need-put-byte-requires-2
+put-byte-requires-2 c κs = search needs
+
+seal-requires : tie.Need-seal-requires
+seal-requires c κs = search needs
+
+same-length : tie.Need-same-length
+same-length c = search needs
+
+returns : tie.Need-returns
+returns c = search (reply, two, needs)
+
+pub nack-spec : {M : Type 1} → statement M
+nack-spec =
+    tie.close
+    (tie.spec begin-requires put-byte-requires put-byte-requires-2 seal-requires same-length returns)

@@ -1,0 +1,3 @@
+pub mod Hundred
+pub mod Drafts
+mod Facts

@@ -1,0 +1,42 @@
+-- Each turn asks one register more. Assumes nothing.
+use mathlib.Core.Path.{_≡_, refl}
+use Prim.Native.Nat.{_≤_, _-_}
+use native.Mathlib.Numerals.{add-one}
+use native.Mathlib.Omega.{arith}
+use Rattle.writes.specs.Writes.{pairsOf, allSettings}
+use borrow.Author.Needs.{needs}
+use Rattle.writes.proofs.are_all_settings.Statement.{statement}
+use Rattle.writes.proofs.are_all_settings.Tie as tie
+
+abbrev Inv-loop : tie.InvT-loop
+Inv-loop form bytes count good₀ i₀ good i = (i ≤ count) × (good ≡ allSettings (pairsOf form bytes i))
+
+abbrev μ-loop : tie.MeasureT-loop
+μ-loop form bytes count good₀ i₀ good i = count - i
+
+loop-holds : tie.Need-loop-holds Inv-loop μ-loop
+unfolding pairsOf allSettings
+loop-holds c = (search needs, refl)
+
+pair-at-requires : tie.Need-pair-at-requires Inv-loop μ-loop
+pair-at-requires c κs = search needs
+
+add-i : tie.Need-add-i Inv-loop μ-loop
+add-i c = search needs
+
+loop-less : tie.Need-loop-less Inv-loop μ-loop
+loop-less c = search needs
+
+loop-again : tie.Need-loop-again Inv-loop μ-loop
+unfolding pairsOf allSettings
+loop-again c = (search needs, rw (add-one, c .pair-at .ensures, c .before .before .loop .inv .1))
+
+returns : tie.Need-returns Inv-loop μ-loop
+returns c =
+    let all : c .before .loop .i ≡ c .before .before .before .args .count = omega arith in
+    rw all at (c .before .loop .inv .1)
+
+pub are-all-settings-spec : {M : Type 1} → statement M
+are-all-settings-spec =
+    tie.close
+    (tie.spec Inv-loop μ-loop loop-holds pair-at-requires add-i loop-less loop-again returns)
