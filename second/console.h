@@ -27,7 +27,8 @@ void print_script(uint64_t seed, uint64_t calls, enum script_kind kind);
 /* Prints the named script that drives a count to its end; false where there is none of that name. */
 bool print_limits(const char *name);
 
-/* Answers a raw line from standard input on standard output, until it ends. */
-void serve_line(void);
+/* Answers a raw line from standard input on standard output, until it ends: a board that the recording of that name was played into,
+   or one with no tick yet where it is NULL. False where that gives no board, and nothing is answered. */
+bool serve_line(const char *recording);
 
 #endif

@@ -116,7 +116,7 @@ bool engine_agrees(void)
 {
     static struct replay replay;
     static struct record tick[MOST_ENGINE_TICKS + 1];    /* from 1 on */
-    begin_replay(&replay);
+    begin_replay(&replay, stdin);
     for (int now = 1; play_tick(&replay); now++) {
         if (now > MOST_ENGINE_TICKS) {
             fprintf(stderr, "second: the plain engine takes %d ticks at most\n", MOST_ENGINE_TICKS);

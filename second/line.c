@@ -1,6 +1,6 @@
-/* `line` without a recording: "a board of 8 cells and 2000 pulses per km, no tick yet, at one end of a raw serial line: bytes on
-   standard input, replies on standard output, and nothing else there." */
+/* `line`: a board "at one end of a raw serial line: bytes on standard input, replies on standard output, and nothing else there." */
 #include "console.h"
+#include "replay.h"
 
 #include <stdio.h>
 
@@ -20,16 +20,40 @@ static size_t length_of_reply(const uint8_t *reply)
     }
 }
 
-void serve_line(void)
+/* "a board that a recording was played into (`line` alone: a board of 8 cells and 2000 pulses per km, no tick yet)". A recording that
+   is refused is told of, and its board is as after the last good tick; where its opening is refused there is none. */
+static bool board_after(const char *name, struct board *board)
 {
+    static struct replay replay;
+    FILE *recording = fopen(name, "rb");
+    if (recording == NULL) {
+        fputs("line: 0 ticks, 62: the recording cannot be read\n", stderr);
+        return false;
+    }
+    begin_replay(&replay, recording);
+    while (play_tick(&replay))
+        ;
+    fclose(recording);
+    if (replay.number != DONE)
+        tell("line", &replay);
+    *board = replay.board;
+    return board->cells > 0;
+}
+
+bool serve_line(const char *recording)
+{
+    static struct board board;
     uint8_t bytes[4096], reply[LEAST_ROOM];
     size_t length, taken;
-    struct board board;
-    board_start(&board, 8, 2000);
+    if (recording == NULL)
+        board_start(&board, 8, 2000);
+    else if (!board_after(recording, &board))
+        return false;
     while ((length = fread(bytes, 1, sizeof bytes, stdin)) > 0)
         for (size_t at = 0; at < length; at += taken) {
             board_offer(&board, bytes + at, length - at, &taken);
             if (board_fetch(&board, reply, sizeof reply) != NO_FRAME_HELD)
                 fwrite(reply, 1, length_of_reply(reply), stdout);
         }
+    return true;
 }

@@ -7,7 +7,7 @@
    second --compare NAME SCRIPT    holds the board's answers, on standard input, to its own answers to the file SCRIPT
    second --replay                 plays a recording from standard input, and prints its events
    second --calls                  prints a recording from standard input as calls
-   second --line                   answers a raw line from standard input on standard output
+   second --line [RECORDING]       answers a raw line from standard input on standard output, after that recording
    second --engine                 holds the board to the plain engine, on a recording of up to 600 ticks
    second --record SEED TICKS      writes a recording to standard output
    second --record SEED TICKS D    the same with one damage; record.c has the names
@@ -216,10 +216,8 @@ static int obey_words(int words, char **word)
         return replay_recording() ? ALL_WELL : FAILED;
     if (words == 2 && strcmp(order, "--calls") == 0)
         return print_calls() ? ALL_WELL : FAILED;
-    if (words == 2 && strcmp(order, "--line") == 0) {
-        serve_line();
-        return ALL_WELL;
-    }
+    if ((words == 2 || words == 3) && strcmp(order, "--line") == 0)
+        return serve_line(words == 3 ? word[2] : NULL) ? ALL_WELL : FAILED;
     if (words == 2 && strcmp(order, "--engine") == 0)
         return engine_agrees() ? ALL_WELL : FAILED;
     if ((words == 4 || words == 5) && strcmp(order, "--record") == 0)
@@ -244,7 +242,8 @@ int main(int words, char **word)
     if (status == WRONG_WORDS)
         fputs("usage: second | second --fault 1..6 | second --script SEED CALLS [ticks|frames|quick|memory]\n"
               "       second --limits latchings|currents|distance|event-time|event-numbers\n"
-              "       second --compare NAME SCRIPT | second --replay | second --calls | second --engine | second --line\n"
+              "       second --compare NAME SCRIPT | second --replay | second --calls | second --engine\n"
+              "       second --line [RECORDING]\n"
               "       second --record SEED TICKS [DAMAGE], DAMAGE one of\n"
               "       cell flag padding current internal pulses cut opening-cut opening-padding opening-count\n", stderr);
     return status == ALL_WELL && (fflush(stdout) != 0 || ferror(stdout)) ? FAILED : status;

@@ -1,8 +1,10 @@
-/* W-211: "Replay a returned week." A recording is read from standard input and played into a board. */
+/* W-211: "Replay a returned week." A recording is read and played into a board. */
 #ifndef REPLAY_H
 #define REPLAY_H
 
 #include "board.h"
+
+#include <stdio.h>
 
 enum {
     OPENING_BYTES = 4,
@@ -19,6 +21,7 @@ struct record {
 };
 
 struct replay {
+    FILE *recording;
     struct board board;         /* as after the last good tick */
     struct record record;       /* the latest one read */
     uint64_t ticks;             /* accepted */
@@ -26,8 +29,9 @@ struct replay {
     const char *meaning;        /* of that number */
 };
 
-void begin_replay(struct replay *replay);
+void begin_replay(struct replay *replay, FILE *recording);
 bool play_tick(struct replay *replay);      /* false where there is no other good record */
+void tell(const char *who, const struct replay *replay);    /* on standard error: the ticks accepted, and the refusal */
 
 /* "It prints a line for each event", and at the end how it went; gives back whether nothing is refused. */
 bool replay_recording(void);
