@@ -14,15 +14,18 @@ const MESSAGES: i32 = 2;
 
 // With no recording: 8 cells, 2000 pulses per km, no tick yet.
 fn main() {
-    if os::arg_count() < 2 {
+    let words = os::arg_count();
+    if words < 2 {
         let started = Board::start(8, 2000);
         listen(started.board);
-    } else {
+    } else if words == 2 {
         play_and_listen();
+    } else {
+        io::write_all(MESSAGES, b"usage: line [RECORDING]\n");
     }
 }
 
-// A recording that is bad is told of, and served as far as it went; with none to read nothing is served.
+// With no recording to read nothing is served.
 fn play_and_listen() {
     let mut name = io::buffer();
     let length = os::arg(1, &mut name);
@@ -33,12 +36,20 @@ fn play_and_listen() {
             b"line: 0 ticks, 62: the recording cannot be read\n",
         );
     } else {
-        listen(board_after(file));
+        serve_after(player::opening(file), file);
     }
 }
 
-fn board_after(file: i32) -> Board {
-    let opened = player::opening(file);
+// A recording that is bad is told of, and served as far as it went; one whose opening is bad has no board to serve.
+fn serve_after(opened: Played, file: i32) {
+    if opened.is_open {
+        listen(board_after(opened, file));
+    } else {
+        player::tell(b"line", opened);
+    }
+}
+
+fn board_after(opened: Played, file: i32) -> Board {
     let mut block = [0u8; BLOCK];
     let ran = all_played(opened.ran, file, &mut block);
     if !ran.is_done() {
