@@ -1,5 +1,7 @@
 // What is said of a recording on standard error: how far it is, and how it went.
 use crate::Played;
+use refusals::Outcome;
+use refusals::Refusal;
 
 const MESSAGES: i32 = 2;
 
@@ -29,37 +31,39 @@ pub fn tell(name: &[u8], played: Played) {
     put_ticks(played.ran.accepted);
     let ran = played.ran;
     let outcome = ran.outcome;
-    let number = outcome.number();
-    if number != 0 {
-        io::write_all(MESSAGES, b", ");
-        io::print_decimal(MESSAGES, number as u64);
-        put_meaning(number, played.is_open);
+    match outcome {
+        Outcome::Done => {}
+        Outcome::Refused(refusal) => put_refusal(refusal, played.is_open),
     }
     io::write_all(MESSAGES, b"\n");
 }
 
-fn put_meaning(number: u8, is_open: bool) {
-    if number == 21 {
-        io::write_all(MESSAGES, b": a wrong cell count");
-    } else if is_open {
-        put_end(number);
+fn put_refusal(refusal: Refusal, is_open: bool) {
+    io::write_all(MESSAGES, b", ");
+    io::print_decimal(MESSAGES, refusal.number() as u64);
+    if is_open {
+        put_end(refusal);
     } else {
-        put_opening(number);
+        put_opening(refusal);
     }
 }
 
-fn put_opening(number: u8) {
-    if number == 61 {
-        io::write_all(MESSAGES, b": a bad opening");
-    } else {
-        io::write_all(MESSAGES, b": the opening is cut");
+// An opening is refused for one of three, and a run for one of two.
+fn put_opening(refusal: Refusal) {
+    match refusal {
+        Refusal::NoBoard => put_words(b": a wrong cell count"),
+        Refusal::BadRecord => put_words(b": a bad opening"),
+        _ => put_words(b": the opening is cut"),
     }
 }
 
-fn put_end(number: u8) {
-    if number == 61 {
-        io::write_all(MESSAGES, b": a bad record");
-    } else {
-        io::write_all(MESSAGES, b": the last record is cut");
+fn put_end(refusal: Refusal) {
+    match refusal {
+        Refusal::BadRecord => put_words(b": a bad record"),
+        _ => put_words(b": the last record is cut"),
     }
+}
+
+fn put_words(words: &[u8]) {
+    io::write_all(MESSAGES, words);
 }
