@@ -21,23 +21,24 @@ static size_t length_of_reply(const uint8_t *reply)
 }
 
 /* "a board that a recording was played into (`line` alone: a board of 8 cells and 2000 pulses per km, no tick yet)". A recording that
-   is refused is told of, and its board is as after the last good tick; where its opening is refused there is none. */
+   is refused is told of, and its board is as after the last good tick; where its opening is refused, or the recording cannot be read,
+   there is none. */
 static bool board_after(const char *name, struct board *board)
 {
     static struct replay replay;
     FILE *recording = fopen(name, "rb");
     if (recording == NULL) {
-        fputs("line: 0 ticks, 62: the recording cannot be read\n", stderr);
+        fputs("line: 0 ticks, the recording cannot be read\n", stderr);
         return false;
     }
     begin_replay(&replay, recording);
     while (play_tick(&replay))
         ;
     fclose(recording);
-    if (replay.number != DONE)
+    if (replay.number != DONE || replay.unread)
         tell("line", &replay);
     *board = replay.board;
-    return board->cells > 0;
+    return board->cells > 0 && !replay.unread;
 }
 
 bool serve_line(const char *recording)

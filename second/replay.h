@@ -27,6 +27,7 @@ struct replay {
     uint64_t ticks;             /* accepted */
     enum number number;         /* other than DONE: it is over */
     const char *meaning;        /* of that number */
+    bool unread;                /* a read failed: it is over too */
 };
 
 void begin_replay(struct replay *replay, FILE *recording);

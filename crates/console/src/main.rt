@@ -1,4 +1,4 @@
 // The bench console: what a mechanic types into and a script pipes into. The stored scripts are tried on it.
 fn main() {
-    terminal::serve();
+    terminal::serve(b"console");
 }

@@ -2,6 +2,11 @@
 // latched by both.
 use board::Board;
 use guard::Conditions;
+use streams::put;
+use streams::read_full;
+use streams::tell_failure;
+
+const INPUT: i32 = 0;
 
 const OUTPUT: i32 = 1;
 
@@ -13,12 +18,22 @@ const OPENING: usize = 4;
 
 fn main() {
     let mut opening = [0u8; OPENING];
-    let first = io::read_full(0, &mut opening);
-    let opened = recording::open(&opening[0..first]);
+    let first = read_full(true, INPUT, &mut opening);
+    let four = first.count;
     let mut records = [0u8; MOST_TICKS * RECORD];
-    let count = io::read_full(0, &mut records);
-    io::print_decimal(OUTPUT, ticks_alike(opened.board, &records[0..count]) as u64);
-    io::write_all(OUTPUT, b" ticks alike\n");
+    let rest = read_full(first.is_well, INPUT, &mut records);
+    let bytes = rest.count;
+    let is_read = rest.is_well;
+    let mut is_written = true;
+    if is_read {
+        let opened = recording::open(&opening[0..four]);
+        is_written = put_alike(ticks_alike(opened.board, &records[0..bytes]));
+    }
+    tell_failure(b"lookback", is_read, is_written);
+}
+
+fn put_alike(ticks: usize) -> bool {
+    io::print_decimal(OUTPUT, ticks as u64) && put(true, b" ticks alike\n")
 }
 
 fn ticks_alike(start: Board, records: &[u8]) -> usize {

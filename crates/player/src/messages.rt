@@ -1,7 +1,10 @@
 // What is said of a recording on standard error: how far it is, and how it went.
 use crate::Played;
+use crate::Reading;
 use refusals::Outcome;
 use refusals::Refusal;
+use streams::tell;
+use streams::tell_number;
 
 const MESSAGES: i32 = 2;
 
@@ -15,32 +18,42 @@ pub fn put_progress(ticks: usize, turns: u64) {
 fn put_how_far(ticks: usize) {
     if libc::isatty(MESSAGES) == 1 {
         put_ticks(ticks);
-        io::write_all(MESSAGES, b"\r");
+        tell(b"\r");
     }
 }
 
 fn put_ticks(ticks: usize) {
-    io::print_decimal(MESSAGES, ticks as u64);
-    io::write_all(MESSAGES, b" ticks");
+    tell_number(ticks as u64);
+    tell(b" ticks");
 }
 
-// NAME: N ticks, and the number with its meaning where there is one.
-pub fn tell(name: &[u8], played: Played) {
-    io::write_all(MESSAGES, name);
-    io::write_all(MESSAGES, b": ");
-    put_ticks(played.ran.accepted);
+// NAME: N ticks, and what failed, or the number with its meaning where there is one.
+pub fn tell_of(name: &[u8], reading: Reading, is_written: bool) {
+    tell(name);
+    tell(b": ");
+    put_ticks(reading.played.ran.accepted);
+    if !is_written {
+        tell(b", standard output cannot be written");
+    } else if reading.is_unread() {
+        tell(b", the recording cannot be read");
+    } else {
+        put_outcome(reading.played);
+    }
+    tell(b"\n");
+}
+
+fn put_outcome(played: Played) {
     let ran = played.ran;
     let outcome = ran.outcome;
     match outcome {
         Outcome::Done => {}
         Outcome::Refused(refusal) => put_refusal(refusal, played.is_open),
     }
-    io::write_all(MESSAGES, b"\n");
 }
 
 fn put_refusal(refusal: Refusal, is_open: bool) {
-    io::write_all(MESSAGES, b", ");
-    io::print_decimal(MESSAGES, refusal.number() as u64);
+    tell(b", ");
+    tell_number(refusal.number() as u64);
     if is_open {
         put_end(refusal);
     } else {
@@ -51,19 +64,15 @@ fn put_refusal(refusal: Refusal, is_open: bool) {
 // An opening is refused for one of three, and a run for one of two.
 fn put_opening(refusal: Refusal) {
     match refusal {
-        Refusal::NoBoard => put_words(b": a wrong cell count"),
-        Refusal::BadRecord => put_words(b": a bad opening"),
-        _ => put_words(b": the opening is cut"),
+        Refusal::NoBoard => tell(b": a wrong cell count"),
+        Refusal::BadRecord => tell(b": a bad opening"),
+        _ => tell(b": the opening is cut"),
     }
 }
 
 fn put_end(refusal: Refusal) {
     match refusal {
-        Refusal::BadRecord => put_words(b": a bad record"),
-        _ => put_words(b": the last record is cut"),
+        Refusal::BadRecord => tell(b": a bad record"),
+        _ => tell(b": the last record is cut"),
     }
-}
-
-fn put_words(words: &[u8]) {
-    io::write_all(MESSAGES, words);
 }

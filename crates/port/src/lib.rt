@@ -5,8 +5,7 @@ ghost use lib.ListN.{length};
 ghost use Rattle.port.specs.Port.{lengthBy, lengthIn, Answers, servedOf};
 use board::Board;
 use numbers::lesser;
-
-const OUTPUT: i32 = 1;
+use streams::put;
 
 // For the longest reply.
 const ROOM: usize = 259;
@@ -18,24 +17,31 @@ pub struct Turn {
     pub board: Board,
 }
 
-// Every byte is taken, and each frame's reply is written as soon as the frame is complete.
-pub fn serve(start: Board, bytes: &[u8]) -> Board
-    ensures { λ r. ⌜ r ≡ servedOf start (now (bytes .entry)) .board ⌝ }
+// The board after what came, and whether every reply is written.
+pub struct Listened {
+    pub board: Board,
+    pub is_written: bool,
+}
+
+// Every byte is taken, and each frame's reply is written as soon as the frame is complete; after one that cannot be written none is.
+pub fn serve(start: Board, bytes: &[u8]) -> Listened
+    ensures { λ r. ⌜ r .board ≡ servedOf start (now (bytes .entry)) .board ⌝ }
 {
     let mut board = start;
+    let mut is_written = true;
     let mut rest = bytes;
     let mut reply = [0u8; ROOM];
     let mut turns = 0;
     while turns <= bytes.len() && 0 < rest.len() {
         let turn = answer(board, rest, &mut reply);
         let length = lesser(turn.length, ROOM);
-        io::write_all(OUTPUT, &reply[0..length]);
+        is_written = put(is_written, &reply[0..length]);
         board = turn.board;
         let taken = lesser(turn.taken, rest.len());
         rest = &rest[taken..];
         turns += 1;
     }
-    board
+    Listened { board, is_written }
 }
 
 // Bytes are offered, and the frame that is then held, if there is one, is fetched.

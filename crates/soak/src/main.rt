@@ -1,4 +1,4 @@
 // The bench console once more, for a script that is made afresh at each check.
 fn main() {
-    terminal::serve();
+    terminal::serve(b"soak");
 }

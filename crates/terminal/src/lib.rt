@@ -12,8 +12,13 @@ use crate::calls::call_of;
 use crate::turns::answered;
 use board::Board;
 use numbers::lesser;
-use output::with_room;
-use output::written;
+use streams::Got;
+use streams::Waiting;
+use streams::read;
+use streams::tell;
+use streams::tell_failure;
+use streams::with_room;
+use streams::written;
 use text::LF;
 use text::appended;
 use text::line_end;
@@ -21,74 +26,95 @@ use text::without_cr;
 
 const INPUT: i32 = 0;
 
-const MESSAGES: i32 = 2;
-
 // Answers are written before fewer bytes than this are free: the longest has 1,819.
 const ANSWER_ROOM: usize = 2048;
 
 // The end that the last line is given where it lacks its own. Its CR goes with its LF, so one before it is a byte of the line.
 const LAST_END: [u8; 2] = *b"\r\n";
 
-// Answers standard input on standard output until the input ends.
-pub fn serve() {
+// The board after the lines of a block, and whether every answer is written.
+struct Answered {
+    board: Board,
+    is_written: bool,
+}
+
+// Answers standard input on standard output until the input ends or cannot be read, or an answer cannot be written.
+pub fn serve(name: &[u8]) {
     let mut block = io::large_buffer();
     let mut line = io::buffer();
     let mut out = io::large_buffer();
     let prompts = libc::isatty(INPUT) == 1;
-    answer_all(prompts, &mut block, &mut line, &mut out);
+    answer_all(name, prompts, &mut block, &mut line, &mut out);
 }
 
 // Before the first start there is a board that was started with 0 cells.
 // A proved loop has to end, and nothing says that the input does: no run uses up so many turns.
-fn answer_all(prompts: bool, block: &mut [u8], line: &mut [u8], out: &mut [u8]) {
+fn answer_all(name: &[u8], prompts: bool, block: &mut [u8], line: &mut [u8], out: &mut [u8]) {
     let first = Board::start(0, 0);
     let mut board = first.board;
+    let mut is_written = true;
     let mut held = 0;
     let mut turns = u64::MAX;
-    let mut count = block_read(prompts, block);
-    while 0 < turns && 0 < count {
-        let part = lesser(count, block.len());
-        board = block_answered(board, &block[0..part], line, held, out);
+    let mut got = block_read(true, prompts, block);
+    while 0 < turns && 0 < got.count {
+        let part = lesser(got.count, block.len());
+        let next = block_answered(board, &block[0..part], line, held, out);
+        board = next.board;
+        is_written = next.is_written;
         held = carried(line, held, &block[0..part]);
-        count = block_read(prompts, block);
+        got = block_read(is_written, prompts, block);
         turns -= 1;
     }
-    block_answered(board, &LAST_END, line, held, out);
+    let is_ended = end_answered(got.is_well, board, line, held, out);
+    tell_failure(name, got.is_well, is_written & is_ended);
 }
 
-// One read; 0 at the end of the input, or where it cannot be read.
-fn block_read(prompts: bool, block: &mut [u8]) -> usize {
-    if prompts {
-        io::write_all(MESSAGES, b"> ");
+// The last line, where it lacks its end: whether its answer is written. Of a line whose read failed no call is made.
+fn end_answered(is_read: bool, board: Board, line: &mut [u8], held: usize, out: &mut [u8]) -> bool {
+    if is_read {
+        let last = block_answered(board, &LAST_END, line, held, out);
+        return last.is_written;
     }
-    let got = libc::read(INPUT, block);
-    io::count(got, block)
+    true
 }
 
-// Every line that the block ends; of the first of them so many bytes are held.
+// One read, where there is to be one.
+fn block_read(goes_on: bool, prompts: bool, block: &mut [u8]) -> Got {
+    if prompts & goes_on {
+        tell(b"> ");
+    }
+    read(goes_on, INPUT, block)
+}
+
+// Every line that the block ends, until an answer cannot be written; of the first of them so many bytes are held.
 fn block_answered(
     mut board: Board,
     block: &[u8],
     line: &mut [u8],
     mut held: usize,
     out: &mut [u8],
-) -> Board {
+) -> Answered {
     let mut request = [0u8; MOST_BYTES];
     let mut voltages = [0u16; MOST_CELLS];
-    let mut said = 0;
+    let mut said = Waiting {
+        count: 0,
+        is_well: true,
+    };
     let mut from = 0;
     let mut end = line_end(block, from);
-    while end < block.len() {
+    while end < block.len() && said.is_well {
         let call = piece_call(&block[from..end], line, held, &mut request, &mut voltages);
         from = end + 1;
         end = line_end(block, from);
         held = 0;
-        let turn = answered(board, call, &request, &voltages, out, said);
+        let turn = answered(board, call, &request, &voltages, out, said.count);
         board = turn.board;
         said = with_room(out, turn.said, ANSWER_ROOM);
     }
-    written(out, said);
-    board
+    Answered {
+        board,
+        is_written: written(out, said),
+    }
 }
 
 // What a block leaves of an unfinished line is carried over.

@@ -7,11 +7,11 @@ use Rattle.line.proofs.all_played.Statement.{statement}
 use Rattle.line.proofs.all_played.Tie as tie
 
 abbrev Inv-loop : tie.InvT-loop
-Inv-loop file block₀ ran₀ turns₀ count₀ block ran turns count =
-    (length block ≡ length block₀) × (count ≤ length block)
+Inv-loop file block₀ opened ran₀ turns₀ got₀ block ran turns got =
+    (length block ≡ length block₀) × (got .count ≤ length block)
 
 abbrev μ-loop : tie.MeasureT-loop
-μ-loop file block₀ ran₀ turns₀ count₀ block ran turns count = turns
+μ-loop file block₀ opened ran₀ turns₀ got₀ block ran turns got = turns
 
 next-block-requires : tie.Need-next-block-requires Inv-loop μ-loop
 next-block-requires c κs = search needs

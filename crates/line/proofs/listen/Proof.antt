@@ -7,19 +7,20 @@ use Rattle.line.proofs.listen.Statement.{statement}
 use Rattle.line.proofs.listen.Tie as tie
 
 abbrev Inv-loop : tie.InvT-loop
-Inv-loop board₀ block₀ turns₀ count₀ board block turns count = (4096 ≡ length block) × (count ≤ length block)
+Inv-loop board₀ is-written₀ block₀ turns₀ got₀ t9 board is-written block turns got =
+    (4096 ≡ length block) × (got .count ≤ length block)
 
 abbrev μ-loop : tie.MeasureT-loop
-μ-loop board₀ block₀ turns₀ count₀ board block turns count = turns
+μ-loop board₀ is-written₀ block₀ turns₀ got₀ t9 board is-written block turns got = turns
 
 buffer-requires : tie.Need-buffer-requires Inv-loop μ-loop
 buffer-requires c κs = search needs
 
-slice-aggregate-block-read : tie.Need-slice-aggregate-block-read Inv-loop μ-loop
-slice-aggregate-block-read c = search needs
+slice-aggregate-read : tie.Need-slice-aggregate-read Inv-loop μ-loop
+slice-aggregate-read c = search needs
 
-block-read-requires : tie.Need-block-read-requires Inv-loop μ-loop
-block-read-requires c κs = search needs
+read-requires : tie.Need-read-requires Inv-loop μ-loop
+read-requires c κs = search needs
 
 loop-holds : tie.Need-loop-holds Inv-loop μ-loop
 loop-holds c = search needs
@@ -36,11 +37,11 @@ part-serve-end c = search needs
 serve-requires : tie.Need-serve-requires Inv-loop μ-loop
 serve-requires c κs = search needs
 
-slice-aggregate-block-read-2 : tie.Need-slice-aggregate-block-read-2 Inv-loop μ-loop
-slice-aggregate-block-read-2 c = search needs
+slice-aggregate-read-2 : tie.Need-slice-aggregate-read-2 Inv-loop μ-loop
+slice-aggregate-read-2 c = search needs
 
-block-read-requires-2 : tie.Need-block-read-requires-2 Inv-loop μ-loop
-block-read-requires-2 c κs = search needs
+read-requires-2 : tie.Need-read-requires-2 Inv-loop μ-loop
+read-requires-2 c κs = search needs
 
 sub-turns : tie.Need-sub-turns Inv-loop μ-loop
 sub-turns c = search needs
@@ -51,11 +52,14 @@ loop-less c = search needs
 loop-again : tie.Need-loop-again Inv-loop μ-loop
 loop-again c = search needs
 
+slice-aggregate-tell-failure : tie.Need-slice-aggregate-tell-failure Inv-loop μ-loop
+slice-aggregate-tell-failure c = search needs
+
+tell-failure-requires : tie.Need-tell-failure-requires Inv-loop μ-loop
+tell-failure-requires c κs = search needs
+
 returns : tie.Need-returns Inv-loop μ-loop
 returns c = search needs
-
-returns-2 : tie.Need-returns-2 Inv-loop μ-loop
-returns-2 c = search needs
 
 pub listen-spec : {M : Type 1} → statement M
 listen-spec =
@@ -64,17 +68,18 @@ listen-spec =
     Inv-loop
     μ-loop
     buffer-requires
-    slice-aggregate-block-read
-    block-read-requires
+    slice-aggregate-read
+    read-requires
     loop-holds
     sub-serve
     part-serve-start
     part-serve-end
     serve-requires
-    slice-aggregate-block-read-2
-    block-read-requires-2
+    slice-aggregate-read-2
+    read-requires-2
     sub-turns
     loop-less
     loop-again
-    returns
-    returns-2)
+    slice-aggregate-tell-failure
+    tell-failure-requires
+    returns)

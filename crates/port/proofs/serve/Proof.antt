@@ -8,10 +8,11 @@ use Rattle.port.proofs.serve.Statement.{statement}
 use Rattle.port.proofs.serve.Tie as tie
 
 abbrev Inv-loop : tie.InvT-loop
-Inv-loop bytes board₀ rest₀ reply₀ turns₀ board rest reply turns = Serving board₀ bytes board rest turns × (259 ≡ length reply)
+Inv-loop bytes board₀ is-written₀ rest₀ reply₀ turns₀ board is-written rest reply turns =
+    Serving board₀ bytes board rest turns × (259 ≡ length reply)
 
 abbrev μ-loop : tie.MeasureT-loop
-μ-loop bytes board₀ rest₀ reply₀ turns₀ board rest reply turns = suc (length bytes) - turns
+μ-loop bytes board₀ is-written₀ rest₀ reply₀ turns₀ board is-written rest reply turns = suc (length bytes) - turns
 
 loop-holds : tie.Need-loop-holds Inv-loop μ-loop
 loop-holds c = (begun, refl)
@@ -25,17 +26,17 @@ answer-requires c κs = search needs
 lesser-requires : tie.Need-lesser-requires Inv-loop μ-loop
 lesser-requires c κs = search needs
 
-sub-write-all : tie.Need-sub-write-all Inv-loop μ-loop
-sub-write-all c = search needs
+sub-put : tie.Need-sub-put Inv-loop μ-loop
+sub-put c = search needs
 
-part-write-all-start : tie.Need-part-write-all-start Inv-loop μ-loop
-part-write-all-start c = search needs
+part-put-start : tie.Need-part-put-start Inv-loop μ-loop
+part-put-start c = search needs
 
-part-write-all-end : tie.Need-part-write-all-end Inv-loop μ-loop
-part-write-all-end c = search needs
+part-put-end : tie.Need-part-put-end Inv-loop μ-loop
+part-put-end c = search needs
 
-write-all-requires : tie.Need-write-all-requires Inv-loop μ-loop
-write-all-requires c κs = search needs
+put-requires : tie.Need-put-requires Inv-loop μ-loop
+put-requires c κs = search needs
 
 lesser-requires-2 : tie.Need-lesser-requires-2 Inv-loop μ-loop
 lesser-requires-2 c κs = search needs
@@ -77,10 +78,10 @@ serve-spec =
     slice-aggregate-answer
     answer-requires
     lesser-requires
-    sub-write-all
-    part-write-all-start
-    part-write-all-end
-    write-all-requires
+    sub-put
+    part-put-start
+    part-put-end
+    put-requires
     lesser-requires-2
     sub-rest
     part-rest-start

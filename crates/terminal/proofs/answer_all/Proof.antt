@@ -7,11 +7,11 @@ use Rattle.terminal.proofs.answer_all.Statement.{statement}
 use Rattle.terminal.proofs.answer_all.Tie as tie
 
 abbrev Inv-loop : tie.InvT-loop
-Inv-loop prompts block₀ line₀ out₀ board₀ held₀ turns₀ count₀ t11 block line out board held turns count =
+Inv-loop name prompts block₀ line₀ out₀ board₀ is-written₀ held₀ turns₀ got₀ block line out board is-written held turns got =
     (length block ≡ length block₀) × (length line ≡ length line₀) × (length out ≡ length out₀)
 
 abbrev μ-loop : tie.MeasureT-loop
-μ-loop prompts block₀ line₀ out₀ board₀ held₀ turns₀ count₀ t11 block line out board held turns count = turns
+μ-loop name prompts block₀ line₀ out₀ board₀ is-written₀ held₀ turns₀ got₀ block line out board is-written held turns got = turns
 
 start-requires : tie.Need-start-requires Inv-loop μ-loop
 start-requires c κs = tt
@@ -53,27 +53,23 @@ block-read-requires-2 : tie.Need-block-read-requires-2 Inv-loop μ-loop
 block-read-requires-2 c κs = tt
 
 sub-turns : tie.Need-sub-turns Inv-loop μ-loop
-sub-turns c =
-    let later = c .before .before .before .before .before .before .before .before .before in
-    omega (arith, later .before .before .before .before .before .before .before .before .before)
+sub-turns c = search needs
 
 loop-less : tie.Need-loop-less Inv-loop μ-loop
-loop-less c =
-    let later = c .before .before .before .before .before .before .before .before .before in
-    omega (arith, later .before .before .before .before .before .before .before .before .before)
+loop-less c = search needs
 
 loop-again : tie.Need-loop-again Inv-loop μ-loop
 loop-again c =
+    let later = c .before .before .before .before .before .before .before .before .before .before .before .before in
+    let inv = later .before .before .before .before .before .before .before .before .before .before .before .before .loop .inv in
     let done = c .before .before .before .before .before .before in
-    let later = done .before .before .before .before .before .before .before .before in
-    let inv = later .before .before .before .before .before .before .before .before .loop .inv in
     (omega (arith, inv), omega (arith, inv, done), omega (arith, inv, done))
 
-slice-aggregate-block-answered : tie.Need-slice-aggregate-block-answered Inv-loop μ-loop
-slice-aggregate-block-answered c = search needs
+end-answered-requires : tie.Need-end-answered-requires Inv-loop μ-loop
+end-answered-requires c κs = tt
 
-block-answered-requires-2 : tie.Need-block-answered-requires-2 Inv-loop μ-loop
-block-answered-requires-2 c κs = tt
+tell-failure-requires : tie.Need-tell-failure-requires Inv-loop μ-loop
+tell-failure-requires c κs = tt
 
 same-length : tie.Need-same-length Inv-loop μ-loop
 same-length c = search needs
@@ -109,8 +105,8 @@ answer-all-spec =
     sub-turns
     loop-less
     loop-again
-    slice-aggregate-block-answered
-    block-answered-requires-2
+    end-answered-requires
+    tell-failure-requires
     same-length
     same-length-2
     same-length-3

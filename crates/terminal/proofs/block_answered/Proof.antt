@@ -12,11 +12,10 @@ Inv-loop board₀ block line₀ held₀ out₀ request₀ voltages₀ said₀ fr
     (from ≤ end) × (length line ≡ length line₀) × (length out ≡ length out₀) × (300 ≡ length request) × (32 ≡ length voltages)
 
 abbrev μ-loop : tie.MeasureT-loop
-μ-loop board₀ block line₀ held₀ out₀ request₀ voltages₀ said₀ from₀ end₀ board line held out request voltages said from end =
-    length block - end
+μ-loop board₀ block line₀ held₀ out₀ request₀ voltages₀ said₀ from₀ end₀ board line held out request voltages said from end = length block - end
 
 line-end-requires : tie.Need-line-end-requires Inv-loop μ-loop
-line-end-requires c κs = tt
+line-end-requires c κs = search needs
 
 loop-holds : tie.Need-loop-holds Inv-loop μ-loop
 loop-holds c = search needs
@@ -37,13 +36,13 @@ slice-aggregate-piece-call-2 : tie.Need-slice-aggregate-piece-call-2 Inv-loop μ
 slice-aggregate-piece-call-2 c = search needs
 
 piece-call-requires : tie.Need-piece-call-requires Inv-loop μ-loop
-piece-call-requires c κs = tt
+piece-call-requires c κs = search needs
 
 add-from : tie.Need-add-from Inv-loop μ-loop
 add-from c = search needs
 
 line-end-requires-2 : tie.Need-line-end-requires-2 Inv-loop μ-loop
-line-end-requires-2 c κs = tt
+line-end-requires-2 c κs = search needs
 
 slice-aggregate-answered : tie.Need-slice-aggregate-answered Inv-loop μ-loop
 slice-aggregate-answered c = search needs
@@ -52,10 +51,10 @@ slice-aggregate-answered-2 : tie.Need-slice-aggregate-answered-2 Inv-loop μ-loo
 slice-aggregate-answered-2 c = search needs
 
 answered-requires : tie.Need-answered-requires Inv-loop μ-loop
-answered-requires c κs = tt
+answered-requires c κs = search needs
 
 with-room-requires : tie.Need-with-room-requires Inv-loop μ-loop
-with-room-requires c κs = tt
+with-room-requires c κs = search needs
 
 loop-less : tie.Need-loop-less Inv-loop μ-loop
 loop-less c = omega (arith, c .before .before .before .before .before .before .before .before .before)
@@ -66,7 +65,7 @@ loop-again c =
     (omega (arith, next), omega (arith, next), omega (arith, next), omega (arith, next), omega (arith, next))
 
 written-requires : tie.Need-written-requires Inv-loop μ-loop
-written-requires c κs = tt
+written-requires c κs = search needs
 
 same-length : tie.Need-same-length Inv-loop μ-loop
 same-length c = search needs
