@@ -1,20 +1,21 @@
 -- What a draft holds after pairs: at each register of 300 to 399 the value of the last pair that names it, else what stood; so its
--- settings.
+-- settings, and so its verdict, by these final values alone.
 -- Assumes nothing.
 use mathlib.Core.Path.{_≡_, refl, sym, ap, _∙_}
 use mathlib.Core.Bool.{Bool, true, false, cond}
 use mathlib.Core.List.{List, [], _∷_, map}
-use Prim.Native.Nat.{ℕ, _≤_}
+use Prim.Native.Nat.{ℕ, _+_, _-_, _≤_}
 use native.Mathlib.Omega.{arith}
 use lib.Dec.{eqb}
+use lib.Seq.{ext-getD}
 use Rattle.laws.specs.History.{headOr, newest}
 use Rattle.settings.specs.declared.Settings.{Settings}
 use Rattle.settings.specs.declared.Draft.{Draft}
 use Rattle.settings.specs.Settings as settings
-use Rattle.settings.proofs.Drafts.{Hundred, Held, put-hundred, begun-hundred, put-at, begun-at, read-back}
+use Rattle.settings.proofs.Drafts.{Hundred, Held, put-hundred, begun-hundred, put-at, put-standing, begun-at, read-back}
 use Rattle.signed.specs.Signed.{bitsOf, fromBits}
 use Rattle.writes.specs.declared.Pair.{Pair}
-use Rattle.writes.specs.Writes.{names, lastOf, draftedOf}
+use Rattle.writes.specs.Writes.{names, lastOf, draftedOf, writtenTo}
 
 pub drafted-hundred : (d : Draft) (ps : List Pair) → Hundred d → Hundred (draftedOf d ps)
 unfolding draftedOf
@@ -81,3 +82,36 @@ drafted-settings s ps held =
         → fromBits (headOr (bitsOf (s .r320)) (map (λ p. p .value) qs)) ≡ headOr (s .r320) (map (λ p. fromBits (p .value)) qs)
     signed [] = read-back (s .r320) held
     signed (p ∷ ps) = refl
+
+-- ---- only the final values are judged
+
+drafted-standing : (d : Draft) (ps : List Pair) → draftedOf d ps .standing ≡ d .standing
+unfolding draftedOf
+drafted-standing d [] = refl
+drafted-standing d (p ∷ ps) = put-standing (draftedOf d ps) (p .at) (p .value) ∙ drafted-standing d ps
+
+-- writes that leave each register of 300 to 399 on the same value are judged alike and leave the same settings, whatever else they gave it
+pub final-values : (s : Settings) (ps qs : List Pair)
+    → ((at : ℕ) → 300 ≤ at → at ≤ 399
+    → lastOf (settings.registerOf s at) at (λ v. v) ps ≡ lastOf (settings.registerOf s at) at (λ v. v) qs)
+    → writtenTo s ps ≡ writtenTo s qs
+final-values s ps qs same =
+    ap settings.writtenOf (λ i. record { standing = standing i; values = values i })
+  where
+    draft : List Pair → Draft
+    draft ps = draftedOf (settings.draftOf s) ps
+
+    standing : draft ps .standing ≡ draft qs .standing
+    standing = drafted-standing (settings.draftOf s) ps ∙ sym (drafted-standing (settings.draftOf s) qs)
+
+    hundred : (ps : List Pair) → Hundred (draft ps)
+    hundred ps = drafted-hundred (settings.draftOf s) ps (begun-hundred s)
+
+    value : (at : ℕ) → 300 ≤ at → at ≤ 399 → settings.valueIn (draft ps .values) at ≡ settings.valueIn (draft qs .values) at
+    value at l m = last-given at l m s ps ∙ same at l m ∙ sym (last-given at l m s qs)
+
+    values : draft ps .values ≡ draft qs .values
+    values =
+        ext-getD 0 (draft ps .values) (draft qs .values) (hundred ps ∙ sym (hundred qs))
+        (λ i l. let place : 300 + i - 300 ≡ i = omega arith in
+        rw place at (value (300 + i) (omega arith) (omega (arith, hundred ps))))
