@@ -76,6 +76,13 @@ write-800 = 0xAA ∷ 0x10 ∷ 0x01 ∷ 0x3C ∷ 0x00 ∷ 0x01 ∷ 0x02 ∷ 0x03 
 abbrev pub to-800 : Call
 to-800 = frame write-800 259
 
+-- 316 read by 0x03
+abbrev pub ask-316 : List ℕ
+ask-316 = 0xAA ∷ 0x03 ∷ 0x01 ∷ 0x3C ∷ 0x00 ∷ 0x01 ∷ 0x5C ∷ 0x21 ∷ []
+
+abbrev pub read-316 : Call
+read-316 = frame ask-316 259
+
 -- ---- what is seen
 
 -- of a board that shows no switch and no bit

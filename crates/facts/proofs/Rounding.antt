@@ -5,14 +5,13 @@
 -- is by the same history, and only a reply rounds.
 -- Assumes nothing.
 use mathlib.Core.Path.{_≡_, refl, sym, ap, _∙_, subst⁻¹}
-use mathlib.Core.Bool.{Bool, true, false, cond, and-eq-true-iff}
-use mathlib.Core.List.{List, [], _∷_, _++_, reverse, reverseAux}
-use Prim.Native.Nat.{ℕ, zero, suc, _+_, _*_, _/_, _≤_, _<_}
+use mathlib.Core.Bool.{true, cond, and-eq-true-iff}
+use mathlib.Core.List.{List, [], _∷_, reverse, reverseAux}
+use Prim.Native.Nat.{ℕ, _+_, _*_, _/_, _≤_, _<_}
 use native.Mathlib.Omega.{arith}
-use borrow.Author.Tests.{ne-eqb, eqb-true, eqb-false, leb-true}
+use borrow.Author.Tests.{ne-eqb, leb-true}
 use lib.Dec.{eqb, leb}
-use lib.ListN.{length, take, drop, length-drop}
-use lib.Seq.{take-all, take-append-le, drop-append-le, drop-at}
+use lib.ListN.{length, take, drop}
 use Rattle.refusals.specs.declared.Refusal.the-variants.{NoBoard}
 use Rattle.refusals.specs.declared.Outcome.{Outcome}
 use Rattle.refusals.specs.declared.Outcome.the-variants.{Done, Refused}
@@ -40,8 +39,7 @@ use Rattle.board.specs.Account.{boardAt, deedsOf}
 use Rattle.board.specs.Demands.{told, reached}
 use Rattle.board.proofs.Shape.{is-done}
 use Rattle.board.proofs.Demands.Demand2.{account, as-told}
-use Rattle.replies.proofs.Writing.{words-length}
-use Rattle.facts.proofs.ReadsBack.{words-same, listed-same}
+use Rattle.facts.proofs.ReadsBack.{word-at, words-same, listed-same}
 
 -- ---- the board that rounds down
 
@@ -138,35 +136,13 @@ pub same-value : (b : Board) (at : ℕ) → (at ≡ 40 → ⊥) → (at ≡ 41 �
 same-value b at lowest highest = rw (ne-eqb at 40 lowest, ne-eqb at 41 highest)
 
 -- so every word of a reply's data but theirs: the i-th word of a row of registers from `at` on
-word-at : (bytes : ℕ → List ℕ) (f : ℕ → ℕ) (at n i : ℕ) → ((w : ℕ) → length (bytes w) ≡ 2) → i < n
-    → take 2 (drop (2 * i) (words bytes f at n)) ≡ bytes (f (at + i))
-unfolding words
-word-at bytes f at zero i two l = absurd (omega arith)
-word-at bytes f at (suc n) i two l = go (eqb i n) refl (λ m. word-at bytes f at n i two m)
-  where
-    long : length (words bytes f at n) ≡ 2 * n
-    long = words-length 2 bytes f at n two
-
-    go : (t : Bool) → eqb i n ≡ t → (i < n → take 2 (drop (2 * i) (words bytes f at n)) ≡ bytes (f (at + i)))
-        → take 2 (drop (2 * i) (words bytes f at n ++ bytes (f (at + n)))) ≡ bytes (f (at + i))
-    go true e older =
-        subst⁻¹ (λ j. take 2 (drop (2 * j) (words bytes f at n ++ bytes (f (at + n)))) ≡ bytes (f (at + j))) (eqb-true i n e)
-        (ap (take 2) (drop-at (words bytes f at n) (bytes (f (at + n))) (2 * n) long)
-        ∙ take-all 2 (bytes (f (at + n))) (omega (arith, two (f (at + n)))))
-    go false e older =
-        let m : i < n = omega (arith, eqb-false) in
-        ap (take 2) (drop-append-le (2 * i) (words bytes f at n) (bytes (f (at + n))) (omega (arith, long)))
-        ∙ take-append-le 2 (drop (2 * i) (words bytes f at n)) (bytes (f (at + n)))
-        (omega (arith, long, length-drop (2 * i) (words bytes f at n)))
-        ∙ older m
-
 pub other-words : (b : Board) (bytes : ℕ → List ℕ) (at n i : ℕ) → ((w : ℕ) → length (bytes w) ≡ 2)
     → i < n → (at + i ≡ 40 → ⊥) → (at + i ≡ 41 → ⊥)
     → take 2 (drop (2 * i) (words bytes (valueDown b) at n)) ≡ take 2 (drop (2 * i) (words bytes (valueAt (b .pack) (b .hire)) at n))
 other-words b bytes at n i two l lowest highest =
-    word-at bytes (valueDown b) at n i two l
+    word-at 2 bytes (valueDown b) at n i two l
     ∙ ap bytes (same-value b (at + i) lowest highest)
-    ∙ sym (word-at bytes (valueAt (b .pack) (b .hire)) at n i two l)
+    ∙ sym (word-at 2 bytes (valueAt (b .pack) (b .hire)) at n i two l)
 
 -- and the whole reply to a query that names neither, to the byte
 abbrev Neither : List ℕ → Query → Type 0

@@ -3,11 +3,12 @@
 -- a board that NACKs everything, one that always replies idle, one that answers its first frame and repeats it, statistics with invented
 -- counts. Demand 3: a handover that does nothing, and one that shows the last rider's switches once more. Some of the first look the same
 -- for two riders: the ones that NACK everything or reply idle meet demand 3, so demand 3 is stated of boards that meet demand 2. And that a
--- write and the distance read back shuts out a board that accepts a write and does not keep it, and a distance that outlives its rider.
+-- write and the distance read back shuts out a board that accepts a write and does not keep it, one that shows the factory settings to a
+-- fetch, or in a list that mixes ranges, and a distance that outlives its rider.
 -- Assumes nothing.
 use mathlib.Core.Path.{_≡_, refl, sym, ap}
 use mathlib.Core.Bool.{Bool, true, false, _&&_, not, cond, false≢true}
-use mathlib.Core.Logic.{inr}
+use mathlib.Core.Logic.{inl, inr}
 use mathlib.Core.List.{List, [], _∷_}
 use Prim.Native.Nat.{ℕ}
 use native.Mathlib.Omega.{arith}
@@ -21,19 +22,22 @@ use Rattle.refusals.specs.declared.Outcome.{Outcome}
 use Rattle.refusals.specs.declared.Outcome.the-variants.{Done, Refused}
 use Rattle.refusals.specs.Refusals.{numberOf, isDone}
 use Rattle.readings.specs.Readings.{noReadings}
+use Rattle.settings.specs.Settings.{factory}
+use Rattle.requests.specs.Requests.{addressAt}
 use Rattle.statistics.specs.declared.Statistics.{Statistics}
 use Rattle.board.specs.declared.Board.{Board}
-use Rattle.board.specs.State.{withStatistics}
+use Rattle.board.specs.State.{withSettings, withStatistics}
 use Rattle.board.specs.Start.{startBoard}
 use Rattle.replies.specs.Replies.{padded, sealed, nackOf}
-use Rattle.board.specs.Calls.{Call, tick, frame, handover, offer, Lent, nothingLent, replyLent, areaLent, shape, Seen, seen, step}
+use Rattle.board.specs.Calls.{Call, tick, frame, handover, offer, fetch, Lent, nothingLent, replyLent, areaLent, shape, Seen, seen, step}
 use Rattle.board.specs.Behaviour.{Behaviour, board}
 use Rattle.board.specs.Account.{hands, distanceAt}
 use Rattle.board.specs.Demands.{deeds, Demand1, Demand2, SameKept, Demand3}
 use Rattle.board.proofs.Opened.{accounted}
-use Rattle.facts.proofs.Calls.{flow, still, status, events, latchings, write-800, to-800, says, answerAt, outcomeAt, byteAt}
+use Rattle.facts.proofs.Calls.{flow, still, status, events, latchings, write-800, to-800, ask-316, read-316}
+use Rattle.facts.proofs.Calls.{says, answerAt, outcomeAt, byteAt}
 use Rattle.facts.proofs.Invariants.{Typed, Bytes}
-use Rattle.facts.proofs.ReadsBack.{ReadsBack}
+use Rattle.facts.proofs.ReadsBack.{ReadsBack, entry-reads}
 
 -- ---- ours, but at these calls: what a call is lent says which is a frame or a fetch, its deeds which is a handover
 
@@ -297,8 +301,7 @@ typed = (bytes write-800 refl, tt)
 pub dropping-fails : ¬ ReadsBack dropping
 unfolding accounted
 dropping-fails h =
-    let s : List ℕ = 0xAA ∷ 0x03 ∷ 0x01 ∷ 0x3C ∷ 0x00 ∷ 0x01 ∷ 0x5C ∷ 0x21 ∷ [] in
-    let e = h .block 4 2000 (to-800 ∷ []) typed s 259 0x03 316 1 refl (omega arith) (omega arith) refl in
+    let e = h .block 4 2000 (to-800 ∷ []) typed 0x03 316 1 (omega arith) (omega arith) read-316 ask-316 259 (inl refl) refl refl in
     let z : _≡_ {A = ℕ} 0x0B 0x03 = ap (λ (l : List ℕ). getD l 3 0) e in
     omega arith
 
@@ -306,14 +309,54 @@ pub factory-is-sent : ¬ ReadsBack dropping
 unfolding accounted
 factory-is-sent h =
     let s : List ℕ = 0xAA ∷ 0x1D ∷ 0x04 ∷ 0x00 ∷ 0x64 ∷ 0x7A ∷ 0x5E ∷ [] in
-    let z : _≡_ {A = ℕ} 0x54 0x20 = ap (λ (l : List ℕ). getD l 35 0) (h .current 4 2000 (to-800 ∷ []) typed s 259 100 refl refl) in
+    let e = h .current 4 2000 (to-800 ∷ []) typed 100 (frame s 259) s 259 (inl refl) refl refl in
+    let z : _≡_ {A = ℕ} 0x54 0x20 = ap (λ (l : List ℕ). getD l 35 0) e in
     omega arith
 
--- and the handover that does nothing: twenty pulses of the last rider read as 0.01 km
+-- ---- a read shows the factory settings at some calls
+
+abbrev pub factoryAt : (Call → Bool) → Behaviour
+factoryAt these =
+    record {
+      State = Board;
+      start = startBoard;
+      started = board .started;
+      step = λ b c. (step b c .0, cond (these c) (step (withSettings b factory) c .1) (step b c .1));
+    }
+
+-- off the raw line: 316 was written to 800, and reads 2900 where its request is held and fetched
+pub fetched-factory-fails : ¬ ReadsBack (factoryAt (λ c. shape c .fetches))
+unfolding accounted
+fetched-factory-fails h =
+    let typed : Typed (to-800 ∷ offer ask-316 ∷ []) = (bytes write-800 refl, (bytes ask-316 refl, tt)) in
+    let e = h .block 4 2000 (to-800 ∷ offer ask-316 ∷ []) typed 0x03 316 1 (omega arith) (omega arith) (fetch 259) ask-316 259
+    (inr (refl, refl)) refl refl in
+    let z : _≡_ {A = ℕ} 0x0B 0x03 = ap (λ (l : List ℕ). getD l 3 0) e in
+    omega arith
+
+-- in a list that begins with no setting
+abbrev mixes : Lent → Bool
+mixes nothingLent = false
+mixes (replyLent s room reply) = eqb (getD s 1 0) 0x09 && ltb (addressAt s 0) 300
+mixes (areaLent area) = false
+
+-- of 5 and 316, by 0x09
+pub mixed-factory-fails : ¬ ReadsBack (factoryAt (λ c. mixes (lentTo c)))
+unfolding accounted
+mixed-factory-fails h =
+    let s : List ℕ = 0xAA ∷ 0x09 ∷ 0x04 ∷ 0x05 ∷ 0x00 ∷ 0x3C ∷ 0x01 ∷ 0x30 ∷ 0x5F ∷ [] in
+    let e = entry-reads (factoryAt (λ c. mixes (lentTo c))) h 4 2000 (to-800 ∷ []) typed (frame s 259) s 259 2 (inl refl) refl refl 1
+    (omega arith) (omega arith) (omega arith) in
+    let z : _≡_ {A = ℕ} 0x54 0x20 = ap (λ (l : List ℕ). getD l 2 0) e in
+    omega arith
+
+-- ---- a distance outlives its rider
+
+-- by the handover that does nothing: twenty pulses of the last rider read as 0.01 km
 pub distance-kept : ¬ ReadsBack keeping
 unfolding accounted distanceAt
 distance-kept h =
     let s : List ℕ = 0xAA ∷ 0x03 ∷ 0x00 ∷ 0x64 ∷ 0x00 ∷ 0x02 ∷ 0x9C ∷ 0x0F ∷ [] in
-    let e = h .distance 4 2000 (flow (pos 0) 20 false ∷ handover ∷ []) (omega arith) s 259 refl refl in
+    let e = h .distance 4 2000 (flow (pos 0) 20 false ∷ handover ∷ []) (omega arith) (frame s 259) s 259 (inl refl) refl refl in
     let z : _≡_ {A = ℕ} 1 0 = ap (λ (l : List ℕ). getD l 4 0) e in
     omega arith
