@@ -1,5 +1,6 @@
 -- A tick, a frame, a handover, a save and a load neither look at what is held of the raw line nor touch it (a handover drops it): so calls
--- that are none of the line's are answered alike, whatever is held. Assumes nothing.
+-- that are none of the line's are answered alike, whatever is held; and an offer changes nothing else, so once what was heard is let go no
+-- offer shows. Assumes nothing.
 use mathlib.Core.Path.{_≡_, refl, sym, ap, ap₂, _∙_}
 use mathlib.Core.Bool.{Bool, true, false, not, cond, false≢true}
 use mathlib.Core.List.{List, [], _∷_, _++_}
@@ -9,8 +10,10 @@ use Rattle.refusals.specs.declared.Refusal.{Refusal}
 use Rattle.refusals.specs.declared.Refusal.the-variants.{NoRoom, NoBoard, TooLong}
 use Rattle.refusals.specs.declared.Outcome.{Outcome}
 use Rattle.refusals.specs.Refusals.{isDone, first}
+use Rattle.hire.specs.Hire.{newHire}
 use Rattle.hire.specs.Registers.{readingRegister}
 use Rattle.receiver.specs.declared.Receiver.{Receiver}
+use Rattle.receiver.specs.Receiver.{noBytes}
 use Rattle.requests.specs.declared.Query.{Query}
 use Rattle.requests.specs.declared.Query.the-variants.{Registers, Listed, Bare, NewEvents, AllEvents, Temperatures, Cells, SettingsOf}
 use Rattle.requests.specs.declared.Request.{Request}
@@ -27,8 +30,8 @@ use Rattle.board.specs.Changes.{changedBy}
 use Rattle.board.specs.Calls.{Call, tick, frame, handover, offer, fetch, save, load}
 use Rattle.board.specs.Calls.{Seen, seen, replyLent, Shape, shape, outcomeOf}
 use Rattle.board.specs.Calls.{letsGo, boardBy, seenOf, outcomeIn, boardAfter, step}
-use Rattle.board.specs.Behaviour.{board, answersIn}
-use Rattle.board.specs.Demands.{offTheLine}
+use Rattle.board.specs.Behaviour.{board, afterIn, answersIn}
+use Rattle.board.specs.Demands.{offTheLine, fetchless, withoutLine}
 use Rattle.board.proofs.Shape.{holds-on}
 use Rattle.board.proofs.Opened.{steps}
 
@@ -89,11 +92,12 @@ module _ (b : Board) (r : Receiver) where
     lent : c .lent (withReceiver b r) ≡ c .lent b
     carries : c .carries (withReceiver b r) ≡ c .carries b
     held : Receiver
+    none : r ≡ noBytes → held ≡ noBytes
     done : c .done (withReceiver b r) ≡ withReceiver (c .done b) held
 
   same : (c : Call) → shape c .onLine ≡ false → Same (shape c)
-  unfolding shape steps handedOver
-  same (tick cells rd) e = record { fetches = refl; rows = refl; lent = refl; carries = refl; held = r; done = refl }
+  unfolding shape steps handedOver newHire
+  same (tick cells rd) e = record { fetches = refl; rows = refl; lent = refl; carries = refl; held = r; none = λ e. e; done = refl }
   same (frame s room) e =
       record {
         fetches = refl;
@@ -101,13 +105,14 @@ module _ (b : Board) (r : Receiver) where
         lent = ap (replyLent s room) (request-reply s (requestOf s));
         carries = refl;
         held = r;
+        none = λ e. e;
         done = request-changes s (requestOf s);
       }
-  same handover e = record { fetches = refl; rows = refl; lent = refl; carries = refl; held = handedOver b .hire .receiver; done = refl }
+  same handover e = record { fetches = refl; rows = refl; lent = refl; carries = refl; held = noBytes; none = λ e. refl; done = refl }
   same (offer bytes) e = absurd (false≢true (sym e))
   same (fetch room) e = absurd (false≢true (sym e))
-  same (save n) e = record { fetches = refl; rows = refl; lent = refl; carries = refl; held = r; done = refl }
-  same (load area) e = record { fetches = refl; rows = refl; lent = refl; carries = refl; held = r; done = refl }
+  same (save n) e = record { fetches = refl; rows = refl; lent = refl; carries = refl; held = r; none = λ e. e; done = refl }
+  same (load area) e = record { fetches = refl; rows = refl; lent = refl; carries = refl; held = r; none = λ e. e; done = refl }
 
   module _ (c : Call) (so : Same (shape c)) where
     outcome : outcomeIn (withReceiver b r) c ≡ outcomeIn b c
@@ -156,3 +161,46 @@ alike b r (c ∷ cs) e = go (shape c .onLine) refl e (λ x q. alike (step b c .0
         let so = same b r c e in
         ap (λ (p : Board × Seen). p .1 ∷ answersIn board (p .0) cs) (stepped b r c so)
         ∙ ap (λ (l : List Seen). step b c .1 ∷ l) (later (after b r c so) f)
+
+-- ---- what was heard is let go
+
+-- a call that is none of the line's
+silent : (b : Board) (c : Call) → shape c .onLine ≡ false → letGo (boardAfter b c) ≡ boardAfter (letGo b) c
+unfolding after
+silent b c e =
+    let so = same b noBytes c e in
+    sym (boards b noBytes c so ∙ ap (withReceiver (boardAfter b c)) (go (isDone (outcomeIn b c)) (so .held) (so .none refl)))
+  where
+    go : (t : Bool) (held : Receiver) → held ≡ noBytes → cond t held noBytes ≡ noBytes
+    go true held e = e
+    go false held e = refl
+
+-- an offer
+unheard : (b : Board) (bytes : List ℕ) → letGo (boardAfter b (offer bytes)) ≡ letGo b
+unfolding shape boardBy
+unheard b bytes = go (isDone (outcomeIn b (offer bytes))) (letsGo (shape (offer bytes)) (outcomeIn b (offer bytes)))
+  where
+    go : (t u : Bool) → letGo (cond t (shape (offer bytes) .done b) (cond u (letGo b) b)) ≡ letGo b
+    go true u = refl
+    go false true = refl
+    go false false = refl
+
+-- any calls by which no frame is fetched
+pub all-let-go : (b : Board) (cs : List Call) → fetchless cs ≡ true
+    → letGo (afterIn board b cs) ≡ afterIn board (letGo b) (withoutLine cs)
+unfolding afterIn shape
+all-let-go b [] e = refl
+all-let-go b (c ∷ cs) e = go c (shape c .fetches) refl (shape c .onLine) refl e (λ q. all-let-go (step b c .0) cs q)
+  where
+    go : (c : Call) (f : Bool) → shape c .fetches ≡ f → (t : Bool) → shape c .onLine ≡ t → cond f false (fetchless cs) ≡ true
+        → (fetchless cs ≡ true → letGo (afterIn board (step b c .0) cs) ≡ afterIn board (letGo (step b c .0)) (withoutLine cs))
+        → letGo (afterIn board (step b c .0) cs) ≡ afterIn board (letGo b) (cond t (withoutLine cs) (c ∷ withoutLine cs))
+    go c true f t o e later = absurd (false≢true e)
+    go c false f false o e later = later e ∙ ap (λ (x : Board). afterIn board x (withoutLine cs)) (silent b c o)
+    go (tick cells r) false f true o e later = absurd (false≢true o)
+    go (frame s room) false f true o e later = absurd (false≢true o)
+    go handover false f true o e later = absurd (false≢true o)
+    go (offer bytes) false f true o e later = later e ∙ ap (λ (x : Board). afterIn board x (withoutLine cs)) (unheard b bytes)
+    go (fetch room) false f true o e later = absurd (false≢true (sym f))
+    go (save n) false f true o e later = absurd (false≢true o)
+    go (load area) false f true o e later = absurd (false≢true o)

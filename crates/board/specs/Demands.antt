@@ -20,6 +20,7 @@ use Rattle.board.specs.Calls.{Call, Seen, handover, fetch, Lent, nothing
 use Rattle.board.specs.Behaviour.{Behaviour, afterIn, answersIn}
 use Rattle.board.specs.Deeds.{Deed}
 use Rattle.board.specs.Account.{boardAt, outcomeAt, deedsOf}
+use Rattle.board.specs.Account.OffTheLine.{heardAt}
 use Rattle.board.specs.Account.Kept.{settingsAt, clockAt, countAt, latchedAt, waitsAt, rememberedAt, momentsAt}
 
 -- the history of calls made in that order, and its deeds
@@ -52,6 +53,15 @@ abbrev pub offTheLine : List Call → Bool
 offTheLine [] = true
 offTheLine (c ∷ cs) = cond (shape c .onLine) false (offTheLine cs)
 
+-- calls by which no frame is fetched; and calls without those of the raw line
+abbrev pub fetchless : List Call → Bool
+fetchless [] = true
+fetchless (c ∷ cs) = cond (shape c .fetches) false (fetchless cs)
+
+abbrev pub withoutLine : List Call → List Call
+withoutLine [] = []
+withoutLine (c ∷ cs) = cond (shape c .onLine) (withoutLine cs) (c ∷ withoutLine cs)
+
 -- the state after calls, and what is seen at one more
 abbrev pub reached : (B : Behaviour) → ℕ → ℕ → List Call → B .State
 reached B cells perKm cs = afterIn B (B .start cells perKm) cs
@@ -81,6 +91,14 @@ pub record Demand1 (B : Behaviour) : Type 0 where
       → (B .step (next B cells perKm cs (fetch room)) (fetch room) .1 .outcome ≡ Refused NoFrameHeld)
       × ((zs : List Call) → offTheLine zs ≡ true
       → answersIn B (next B cells perKm cs (fetch room)) zs ≡ answersIn B (reached B cells perKm cs) zs)
+  -- and every call, an offer too, is answered as if no byte of it had come: as on the board that had heard nothing of a frame (after a
+  -- start, a fetch or a handover) and was called since by all but the raw line
+  pub lets-all-go : (cells perKm : ℕ) (cs os : List Call) (room : ℕ)
+      → heardAt (deeds cells perKm cs) ≡ [] → fetchless os ≡ true
+      → nacks (B .step (afterIn B (reached B cells perKm cs) os) (fetch room) .1 .outcome) ≡ true
+      → (zs : List Call)
+      → answersIn B (B .step (afterIn B (reached B cells perKm cs) os) (fetch room) .0) zs
+      ≡ answersIn B (afterIn B (reached B cells perKm cs) (withoutLine os)) zs
   -- and leaves of the buffer what is named, and nothing else
   pub leaves : (cells perKm : ℕ) (cs : List Call) (c : Call)
       → Leaves (boardAt cells perKm (deeds cells perKm cs)) (shown B cells perKm cs c)
@@ -142,6 +160,6 @@ Alike B Agree =
     → Agree (deeds cells perKm xs) (deeds cells perKm ys)
     → answersIn B (reached B cells perKm xs) (handover ∷ zs) ≡ answersIn B (reached B cells perKm ys) (handover ∷ zs)
 
--- (300, equal counts, equal waits and equal memories are needed: crate `facts`, Needed)
+-- (each of these is needed, 300, both boards' ticks and the clock's tenth too: crate `facts`, Needed)
 abbrev pub Demand3 : Behaviour → Type 0
 Demand3 B = Alike B (λ h k. BothQuiet 300 h k ⊎ SameKept h k)

@@ -15,6 +15,7 @@ use Rattle.refusals.specs.declared.Outcome.the-variants.{Done, Refused}
 use Rattle.refusals.specs.Refusals.{refusalNumber, leftBy, numberOf, isDone, first}
 use Rattle.refusals.proofs.Rows.{refused-not, done-is, not-done}
 use Rattle.receiver.specs.Receiver.{noBytes, complete}
+use Rattle.receiver.specs.Heard.{afterHearing}
 use Rattle.receiver.proofs.Heard.{held, is-held, ours}
 use Rattle.receiver.proofs.Through.{none-held}
 use Rattle.requests.specs.Requests.{foreign, requestRows, requestOf}
@@ -22,7 +23,7 @@ use Rattle.replies.specs.Replies.{padded}
 use Rattle.pack.specs.Pack.{usableCount, newPack, startOutcome}
 use Rattle.answers.specs.Answers.{askedRows, leftReply, refusedReply, replyBy}
 use Rattle.board.specs.declared.Board.{Board}
-use Rattle.board.specs.State.{usable}
+use Rattle.board.specs.State.{usable, withReceiver}
 use Rattle.board.specs.Line.{heldIn, holds, letGo}
 use Rattle.board.specs.Start.{startBoard}
 use Rattle.board.specs.Calls.{Call, tick, frame, handover, offer, fetch, save, load}
@@ -31,11 +32,11 @@ use Rattle.board.specs.Calls.{frameRows, shape}
 use Rattle.board.specs.Calls.{outcomeOf, nacks, lost, letsGo, boardBy, seenOf, outcomeIn, boardAfter, step}
 use Rattle.board.specs.Behaviour.{Behaviour, board, afterIn, answersIn}
 use Rattle.board.specs.Account.{Deed, heardAt, heldAt, boardAt, outcomeAt}
-use Rattle.board.specs.Demands.{deeds, LeavesReply, Leaves, reached, shown, next, Demand1}
+use Rattle.board.specs.Demands.{deeds, LeavesReply, Leaves, withoutLine, reached, shown, next, Demand1}
 use Rattle.board.specs.Promises.{requestOutcome}
 use Rattle.board.proofs.Shape.{none-21, kept, kept-none}
 use Rattle.board.proofs.Asked.{by-table, not-foreign, Blank, Leftover, left-whole, left-blank, no-bytes}
-use Rattle.board.proofs.Deaf.{alike}
+use Rattle.board.proofs.Deaf.{alike, all-let-go}
 use Rattle.board.proofs.Demands.Demand2.{account}
 
 -- ---- a refused call leaves the board as it was: so it is by its shape, but for a held frame that is let go
@@ -118,7 +119,8 @@ takes-none b c h = rw (not-done (outcomeIn b c) h) refl
 -- ---- a fetch that answers with a NACK
 
 module _ (b : Board) (room : ℕ) (nack : nacks (outcomeIn b (fetch room)) ≡ true) where
-  only-lets-go : boardAfter b (fetch room) ≡ letGo b
+  -- the held frame goes, and nothing else changes
+  pub only-lets-go : boardAfter b (fetch room) ≡ letGo b
   unfolding shape boardBy
   only-lets-go = go (outcomeIn b (fetch room)) nack
     where
@@ -141,6 +143,11 @@ module _ (b : Board) (room : ℕ) (nack : nacks (outcomeIn b (fetch room)) ≡ t
       go false true k = absurd (false≢true k)
       go false false k = rw none-held refl
 
+-- a board that has heard nothing is as one that lets go of what it heard
+at-rest : (cells perKm : ℕ) (h : List Deed) → heardAt h ≡ [] → letGo (boardAt cells perKm h) ≡ boardAt cells perKm h
+unfolding boardAt
+at-rest cells perKm h e = ap (withReceiver (boardAt cells perKm h)) (sym (ap afterHearing e))
+
 pub demand1 : Demand1 board
 unfolding startBoard newPack startOutcome first
 demand1 =
@@ -158,6 +165,12 @@ demand1 =
             λ zs off. ap (λ (x : Board). answersIn board x zs) gone
                 ∙ alike b noBytes zs off,
           );
+      lets-all-go = λ cells perKm cs os room rests no n zs.
+          let b = reached board cells perKm cs in
+          let rested : letGo b ≡ b =
+          subst⁻¹ (λ (x : Board). letGo x ≡ x) (account cells perKm cs) (at-rest cells perKm (deeds cells perKm cs) rests) in
+          ap (λ (x : Board). answersIn board x zs)
+          (only-lets-go (afterIn board b os) room n ∙ all-let-go b os no ∙ ap (λ (x : Board). afterIn board x (withoutLine os)) rested);
       leaves = λ cells perKm cs c.
           let b = boardAt cells perKm (deeds cells perKm cs) in
           subst⁻¹ (λ (x : Board). Leaves b (step x c .1) (shape c .lent b)) (account cells perKm cs) (leaves b c);
