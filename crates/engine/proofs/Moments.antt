@@ -13,7 +13,7 @@ use Rattle.record.specs.declared.Record.{Record}
 use Rattle.engine.specs.Engine.{recordAt, momentAt}
 
 module _ {A : Type 0} where
-  drop-min : (n : ℕ) (xs : List A) → drop (min n (length xs)) xs ≡ drop n xs
+  pub drop-min : (n : ℕ) (xs : List A) → drop (min n (length xs)) xs ≡ drop n xs
   drop-min n xs =
       min-cases n (length xs) _ (λ h e. ap (λ k. drop k xs) e) (λ h e. ap (λ k. drop k xs) e ∙ drop-of-length-le xs {i = length xs}
       (omega arith) ∙ sym (drop-of-length-le xs {i = n} h))

@@ -1,4 +1,5 @@
-pub mod Played
+pub mod OneRecord
+pub mod Whole
 pub mod Steps
 pub mod GoingOn
 pub mod Recorded
