@@ -1,5 +1,6 @@
 pub mod OneRecord
 pub mod Whole
+pub mod Kept
 pub mod Steps
 pub mod GoingOn
 pub mod Recorded
