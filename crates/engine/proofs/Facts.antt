@@ -7,6 +7,7 @@ use mathlib.Core.List.{List, [], _∷_, _++_}
 use Prim.Native.Nat.{ℕ, zero, suc, _/_, _%_}
 use lib.ListN.{length, replicate}
 use Rattle.signed.specs.Signed.{fromBits, fromBits32}
+use Rattle.settings.specs.Settings.{factory}
 use Rattle.guard.specs.declared.Conditions.{Conditions}
 use Rattle.guard.specs.Guard.{holdsOf, noConditions}
 use Rattle.guard.specs.Account.{latchedFrom}
@@ -26,7 +27,7 @@ hot-unplugged-back-cool : List ℕ
 hot-unplugged-back-cool = tick 0 0 650 ++ tick 0 0 0x8000 ++ tick 0 0 580 ++ tick 0 0 400
 
 latched-after : ℕ → Conditions
-latched-after n = latchedFrom (momentsOf 4 hot-unplugged-back-cool n)
+latched-after n = latchedFrom (momentsOf factory 4 hot-unplugged-back-cool n)
 
 OT : Conditions
 OT = record { uv = false; ov = false; ot = true; doc = false; coc = false; roc = false; lt = false }
@@ -44,6 +45,6 @@ at-rest (suc n) = tick 0 0 200 ++ at-rest n
 drawn : List ℕ
 drawn = tick 0x15A0 0xFFFF 200 ++ at-rest 50
 
-waited : (latchedFrom (momentsOf 4 drawn 50) .doc ≡ true) × (latchedFrom (momentsOf 4 drawn 51) .doc ≡ false)
+waited : (latchedFrom (momentsOf factory 4 drawn 50) .doc ≡ true) × (latchedFrom (momentsOf factory 4 drawn 51) .doc ≡ false)
 unfolding word tick at-rest drawn latchedFrom momentAt holdsOf recordOf readingsOf cellsOf fromBits fromBits32
 waited = (refl, refl)

@@ -8,6 +8,7 @@ use lib.ListN.{length, take, drop, length-drop, drop-of-length-le}
 use Rattle.laws.proofs.Lists.{take-min}
 use Rattle.cells.specs.declared.Extremes.{Extremes}
 use Rattle.cells.specs.Cells.{extremesOf}
+use Rattle.settings.specs.declared.Settings.{Settings}
 use Rattle.readings.specs.declared.Readings.{Readings}
 use Rattle.record.specs.declared.Record.{Record}
 use Rattle.engine.specs.Engine.{recordAt, momentAt}
@@ -26,9 +27,9 @@ module _ {A : Type 0} where
       let g : from + given - from ≡ min size (length (drop n xs)) = omega arith in
       ap₂ take g (ap (λ k. drop k xs) e ∙ drop-min n xs) ∙ take-min size (drop n xs)
 
-module _ {A : Type 0} (tells : Readings → Extremes → A) (count : ℕ) (s : List ℕ) (i : ℕ) {r : Record} {e : Extremes} where
+module _ {A : Type 0} (tells : Readings → Extremes → A) (st : Settings) (count : ℕ) (s : List ℕ) (i : ℕ) {r : Record} {e : Extremes} where
   pub of-moment : r ≡ recordAt count s i → e ≡ extremesOf (take (min 16 count) (r .cells))
-      → tells (r .readings) e ≡ tells (momentAt count s i .readings) (extremesOf (momentAt count s i .cells))
+      → tells (r .readings) e ≡ tells (momentAt st count s i .readings) (extremesOf (momentAt st count s i .cells))
   unfolding momentAt
   of-moment p q =
       ap (λ (e : Extremes). tells (r .readings) e) q

@@ -4,6 +4,7 @@ use mathlib.Core.Bool.{Bool, _||_, not}
 use mathlib.Core.List.{List}
 use Rattle.laws.specs.History.{unbroken}
 use Rattle.cells.specs.Cells.{extremesOf}
+use Rattle.readings.specs.declared.Readings.{Readings}
 use Rattle.readings.specs.Readings.{connected}
 use Rattle.guard.specs.declared.Condition.{Condition}
 use Rattle.guard.specs.declared.Conditions.{Conditions}
@@ -24,8 +25,8 @@ abbrev pub recovered : Condition → Moment → Bool
 recovered c m = is (recoversWith noneRemembered m) c
 
 -- the externals that are connected at a tick; those of two ticks together
-abbrev pub connectedAt : Moment → Remembered
-connectedAt m = record { external1 = connected (m .readings .external1); external2 = connected (m .readings .external2) }
+abbrev pub connectedAt : Readings → Remembered
+connectedAt r = record { external1 = connected (r .external1); external2 = connected (r .external2) }
 
 abbrev pub eitherOf : Remembered → Remembered → Remembered
 eitherOf a b = record { external1 = a .external1 || b .external1; external2 = a .external2 || b .external2 }

@@ -1,12 +1,11 @@
 // The plain engine: what is latched after the first ticks of a recording, each condition found by itself by looking back through the
 // records. Nothing is carried from tick to tick and there is no timer. It is slow and plain on purpose, so that a mechanic can read it.
-// Settings are at the factory.
+// The settings are given, and are the same at every tick.
 ghost use mathlib.Core.Path.{_≡_};
 ghost use Prim.Native.Nat.{_*_, _-_, _<_, min};
 ghost use lib.ListN.{take};
 ghost use Rattle.laws.specs.History.{some, stands, waits};
 ghost use Rattle.cells.specs.Cells.{extremesOf};
-ghost use Rattle.settings.specs.Settings.{factory};
 ghost use Rattle.guard.specs.Account.{waitOf, sinceHot, latchedFrom};
 ghost use Rattle.engine.specs.Engine.{recordAt, momentAt, momentsOf};
 ghost use Rattle.engine.specs.Looks.{held, recoversWith, recovered, connectedAt, eitherOf, staysHot, unbrokenHot};
@@ -19,17 +18,18 @@ use numbers::lesser;
 use record::Record;
 use settings::Settings;
 
-// After so many ticks, on a board with that cell count. The records are the bytes after the opening four; what is missing reads as zeros.
-pub fn latched(records: &[u8], count: u8, ticks: usize) -> Conditions
-    ensures { λ r. ⌜ r ≡ latchedFrom (momentsOf count (now (records .entry)) ticks) ⌝ }
+// After so many ticks, on a board with those settings and that cell count. The records are the bytes after the opening four; what is
+// missing reads as zeros.
+pub fn latched(settings: Settings, records: &[u8], count: u8, ticks: usize) -> Conditions
+    ensures { λ r. ⌜ r ≡ latchedFrom (momentsOf settings count (now (records .entry)) ticks) ⌝ }
 {
-    let uv = stands(records, count, ticks, Condition::UV);
-    let ov = stands(records, count, ticks, Condition::OV);
-    let ot = ot_stands(records, count, ticks);
-    let doc = waits(records, count, ticks, Condition::DOC);
-    let coc = waits(records, count, ticks, Condition::COC);
-    let roc = waits(records, count, ticks, Condition::ROC);
-    let lt = stands(records, count, ticks, Condition::LT);
+    let uv = stands(settings, records, count, ticks, Condition::UV);
+    let ov = stands(settings, records, count, ticks, Condition::OV);
+    let ot = ot_stands(settings, records, count, ticks);
+    let doc = waits(settings, records, count, ticks, Condition::DOC);
+    let coc = waits(settings, records, count, ticks, Condition::COC);
+    let roc = waits(settings, records, count, ticks, Condition::ROC);
+    let lt = stands(settings, records, count, ticks, Condition::LT);
     Conditions {
         uv,
         ov,
@@ -42,16 +42,16 @@ pub fn latched(records: &[u8], count: u8, ticks: usize) -> Conditions
 }
 
 // It held at a tick, and no later one recovered it.
-fn stands(records: &[u8], count: u8, ticks: usize, condition: Condition) -> bool
-    ensures { λ r. ⌜ r ≡ stands (held condition) (recovered condition) (momentsOf count (now (records .entry)) ticks) ⌝ }
+fn stands(settings: Settings, records: &[u8], count: u8, ticks: usize, condition: Condition) -> bool
+    ensures { λ r. ⌜ r ≡ stands (held condition) (recovered condition) (momentsOf settings count (now (records .entry)) ticks) ⌝ }
 {
     let mut tick = ticks;
     while 0 < tick {
         tick -= 1;
-        if held(records, count, tick, condition) {
+        if held(settings, records, count, tick, condition) {
             return true;
         }
-        if recovered(records, count, tick, condition) {
+        if recovered(settings, records, count, tick, condition) {
             return false;
         }
     }
@@ -59,26 +59,26 @@ fn stands(records: &[u8], count: u8, ticks: usize, condition: Condition) -> bool
 }
 
 // It held at a tick, and since the latest such tick there were fewer ticks than the wait.
-fn waits(records: &[u8], count: u8, ticks: usize, condition: Condition) -> bool
-    ensures { λ r. ⌜ r ≡ waits (held condition) waitOf (momentsOf count (now (records .entry)) ticks) ⌝ }
+fn waits(settings: Settings, records: &[u8], count: u8, ticks: usize, condition: Condition) -> bool
+    ensures { λ r. ⌜ r ≡ waits (held condition) waitOf (momentsOf settings count (now (records .entry)) ticks) ⌝ }
 {
     let mut tick = ticks;
     while 0 < tick {
         tick -= 1;
-        if held(records, count, tick, condition) {
-            return ticks - tick - 1 < wait();
+        if held(settings, records, count, tick, condition) {
+            return ticks - tick - 1 < wait(settings);
         }
     }
     false
 }
 
 // OT by W-204: some ticks up to the newest are unbroken. The longest such stretch is tried first.
-fn ot_stands(records: &[u8], count: u8, ticks: usize) -> bool
-    ensures { λ r. ⌜ r ≡ some (sinceHot (momentsOf count (now (records .entry)) ticks)) ⌝ }
+fn ot_stands(settings: Settings, records: &[u8], count: u8, ticks: usize) -> bool
+    ensures { λ r. ⌜ r ≡ some (sinceHot (momentsOf settings count (now (records .entry)) ticks)) ⌝ }
 {
     let mut first = 0;
     while first < ticks {
-        if is_unbroken(records, count, first, ticks) {
+        if is_unbroken(settings, records, count, first, ticks) {
             return true;
         }
         first += 1;
@@ -87,55 +87,67 @@ fn ot_stands(records: &[u8], count: u8, ticks: usize) -> bool
 }
 
 // OT held at the first of these ticks, and at each later one it held or was not recovered, by the sensors connected since the first.
-fn is_unbroken(records: &[u8], count: u8, first: usize, ticks: usize) -> bool
+fn is_unbroken(settings: Settings, records: &[u8], count: u8, first: usize, ticks: usize) -> bool
     requires { ⌜ first < ticks ⌝ }
-    ensures { λ r. ⌜ r ≡ unbrokenHot (take (ticks - first) (momentsOf count (now (records .entry)) ticks)) ⌝ }
+    ensures { λ r. ⌜ r ≡ unbrokenHot (take (ticks - first) (momentsOf settings count (now (records .entry)) ticks)) ⌝ }
 {
     let mut seen = connected(records, count, first);
-    let mut unbroken = held(records, count, first, Condition::OT);
+    let mut unbroken = held(settings, records, count, first, Condition::OT);
     let mut tick = first + 1;
     while tick < ticks && unbroken {
         let now = connected(records, count, tick);
         seen = either(now, seen);
-        unbroken = unbroken & stays(records, count, tick, seen);
+        unbroken = unbroken & stays(settings, records, count, tick, seen);
         tick += 1;
     }
     unbroken
 }
 
 // OT holds at this tick, or is not recovered.
-fn stays(records: &[u8], count: u8, tick: usize, seen: Remembered) -> bool
-    ensures { λ r. ⌜ r ≡ staysHot seen (momentAt count (now (records .entry)) tick) ⌝ }
+fn stays(settings: Settings, records: &[u8], count: u8, tick: usize, seen: Remembered) -> bool
+    ensures { λ r. ⌜ r ≡ staysHot seen (momentAt settings count (now (records .entry)) tick) ⌝ }
 {
-    let hot = held(records, count, tick, Condition::OT);
-    let cool = recovers(records, count, tick, seen).ot;
+    let hot = held(settings, records, count, tick, Condition::OT);
+    let cool = recovers(settings, records, count, tick, seen).ot;
     hot | !cool
 }
 
 // The table's column 'Holds' at a tick.
-fn held(records: &[u8], count: u8, tick: usize, condition: Condition) -> bool
-    ensures { λ r. ⌜ r ≡ held condition (momentAt count (now (records .entry)) tick) ⌝ }
+fn held(settings: Settings, records: &[u8], count: u8, tick: usize, condition: Condition) -> bool
+    ensures { λ r. ⌜ r ≡ held condition (momentAt settings count (now (records .entry)) tick) ⌝ }
 {
     let record = record_at(records, count, tick);
     let cells = record.cells;
     let extremes = extremes(cells, count);
-    guard::holding(Settings::FACTORY, record.readings, extremes).of(condition)
+    guard::holding(settings, record.readings, extremes).of(condition)
 }
 
 // Its column 'Recovers', where no sensor is remembered.
-fn recovered(records: &[u8], count: u8, tick: usize, condition: Condition) -> bool
-    ensures { λ r. ⌜ r ≡ recovered condition (momentAt count (now (records .entry)) tick) ⌝ }
+fn recovered(
+    settings: Settings,
+    records: &[u8],
+    count: u8,
+    tick: usize,
+    condition: Condition,
+) -> bool
+    ensures { λ r. ⌜ r ≡ recovered condition (momentAt settings count (now (records .entry)) tick) ⌝ }
 {
     let none = Remembered {
         external1: false,
         external2: false,
     };
-    recovers(records, count, tick, none).of(condition)
+    recovers(settings, records, count, tick, none).of(condition)
 }
 
 // The column with these sensors remembered; of waits it tells nothing.
-fn recovers(records: &[u8], count: u8, tick: usize, seen: Remembered) -> Conditions
-    ensures { λ r. ⌜ r ≡ recoversWith seen (momentAt count (now (records .entry)) tick) ⌝ }
+fn recovers(
+    settings: Settings,
+    records: &[u8],
+    count: u8,
+    tick: usize,
+    seen: Remembered,
+) -> Conditions
+    ensures { λ r. ⌜ r ≡ recoversWith seen (momentAt settings count (now (records .entry)) tick) ⌝ }
 {
     let record = record_at(records, count, tick);
     let cells = record.cells;
@@ -145,12 +157,12 @@ fn recovers(records: &[u8], count: u8, tick: usize, seen: Remembered) -> Conditi
         coc: 0,
         roc: 0,
     };
-    guard::recovering(Settings::FACTORY, record.readings, extremes, none, seen)
+    guard::recovering(settings, record.readings, extremes, none, seen)
 }
 
 // The externals that are connected at a tick.
 fn connected(records: &[u8], count: u8, tick: usize) -> Remembered
-    ensures { λ r. ⌜ r ≡ connectedAt (momentAt count (now (records .entry)) tick) ⌝ }
+    ensures { λ r. ⌜ r ≡ connectedAt (recordAt count (now (records .entry)) tick .readings) ⌝ }
 {
     let readings = record_at(records, count, tick).readings;
     let external1 = readings::is_connected(readings.external1);
@@ -171,10 +183,9 @@ fn either(a: Remembered, b: Remembered) -> Remembered
 }
 
 // 10·r332, in ticks.
-fn wait() -> usize
-    ensures { λ r. ⌜ r ≡ 10 * (factory .r332) ⌝ }
+fn wait(settings: Settings) -> usize
+    ensures { λ r. ⌜ r ≡ 10 * (settings .r332) ⌝ }
 {
-    let settings = Settings::FACTORY;
     10 * (settings.r332 as usize)
 }
 

@@ -1,5 +1,5 @@
--- What is served after a recording is covered by the theorem of the serial line: a recording whose opening is accepted leaves a usable board
--- to which nothing was offered yet, and from such a board no byte is lost and exactly the replies are said, whatever the reads.
+-- What is served after a recording is covered by the theorem of the serial line: a recording whose opening is accepted leaves a usable
+-- board to which nothing was offered yet, and from such a board no byte is lost and exactly the replies are said, whatever the reads.
 -- Assumes nothing.
 use mathlib.Core.Path.{_≡_}
 use mathlib.Core.List.{List}

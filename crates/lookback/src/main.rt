@@ -36,6 +36,7 @@ fn put_alike(ticks: usize) -> bool {
     io::print_decimal(OUTPUT, ticks as u64) && put(true, b" ticks alike\n")
 }
 
+// Both have the board's settings, which no recording writes.
 fn ticks_alike(start: Board, records: &[u8]) -> usize {
     let mut board = start;
     let mut rest = records;
@@ -46,7 +47,7 @@ fn ticks_alike(start: Board, records: &[u8]) -> usize {
         }
         let ran = recording::run(board, &rest[0..RECORD], 1);
         board = ran.board;
-        let plain = engine::latched(records, board.pack.cells, ticks + 1);
+        let plain = engine::latched(board.pack.settings, records, board.pack.cells, ticks + 1);
         let outcome = ran.outcome;
         if !outcome.is_done() || !is_same(plain, board.pack.guard.latched) {
             return ticks;

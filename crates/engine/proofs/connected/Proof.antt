@@ -4,7 +4,6 @@ use borrow.Author.Needs.{sfits-of}
 use Rattle.readings.specs.Readings.{connected}
 use Rattle.guard.proofs.Told.{told}
 use Rattle.record.specs.declared.Record.{Record}
-use Rattle.engine.specs.Engine.{momentAt}
 use borrow.Author.Needs.{needs}
 use Rattle.engine.proofs.connected.Statement.{statement}
 use Rattle.engine.proofs.connected.Tie as tie
@@ -19,7 +18,6 @@ is-connected-requires-2 : tie.Need-is-connected-requires-2
 is-connected-requires-2 c κs = search needs
 
 returns : tie.Need-returns
-unfolding momentAt
 returns c =
     let fits = c .before .struct-told2 .given .1 .1 in
     let first = c .before .before in

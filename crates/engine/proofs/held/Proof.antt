@@ -1,6 +1,5 @@
 -- The guard's column, of the tick's moment. Assumes nothing.
 use mathlib.Core.Path.{ap, _∙_}
-use Rattle.settings.specs.Settings.{factory}
 use Rattle.guard.specs.declared.Conditions.{Conditions}
 use Rattle.guard.specs.Guard.{holdsOf}
 use Rattle.guard.specs.Table.{is}
@@ -29,7 +28,8 @@ returns c =
     let a = at .before .before .args in
     c .of .ensures
     ∙ ap (λ (x : Conditions). is x (a .condition))
-    (c .before .holding .ensures ∙ of-moment (holdsOf factory) (a .count) (a .records .now) (a .tick) (at .record-at .ensures)
+    (c .before .holding .ensures
+    ∙ of-moment (holdsOf (a .settings)) (a .settings) (a .count) (a .records .now) (a .tick) (at .record-at .ensures)
     (c .before .before .extremes .ensures))
 
 pub held-spec : {M : Type 1} → statement M

@@ -7,10 +7,11 @@ use Rattle.engine.proofs.is_unbroken.Statement.{statement}
 use Rattle.engine.proofs.is_unbroken.Tie as tie
 
 abbrev Inv-loop : tie.InvT-loop
-Inv-loop records count first ticks seen₀ unbroken₀ tick₀ seen unbroken tick = Stretch count records first ticks seen unbroken tick
+Inv-loop settings records count first ticks seen₀ unbroken₀ tick₀ seen unbroken tick =
+    Stretch settings count records first ticks seen unbroken tick
 
 abbrev μ-loop : tie.MeasureT-loop
-μ-loop records count first ticks seen₀ unbroken₀ tick₀ seen unbroken tick = ticks - tick
+μ-loop settings records count first ticks seen₀ unbroken₀ tick₀ seen unbroken tick = ticks - tick
 
 connected-requires : tie.Need-connected-requires Inv-loop μ-loop
 connected-requires c κs = search needs

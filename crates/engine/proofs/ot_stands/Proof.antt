@@ -6,10 +6,10 @@ use Rattle.engine.proofs.ot_stands.Statement.{statement}
 use Rattle.engine.proofs.ot_stands.Tie as tie
 
 abbrev Inv-loop : tie.InvT-loop
-Inv-loop records count ticks first₀ first = Tries count records ticks first
+Inv-loop settings records count ticks first₀ first = Tries settings count records ticks first
 
 abbrev μ-loop : tie.MeasureT-loop
-μ-loop records count ticks first₀ first = ticks - first
+μ-loop settings records count ticks first₀ first = ticks - first
 
 loop-holds : tie.Need-loop-holds Inv-loop μ-loop
 loop-holds c = tries

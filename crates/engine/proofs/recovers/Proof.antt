@@ -2,7 +2,7 @@
 use mathlib.Core.Path.{_∙_}
 use Rattle.cells.specs.declared.Extremes.{Extremes}
 use Rattle.readings.specs.declared.Readings.{Readings}
-use Rattle.settings.specs.Settings.{factory}
+use Rattle.guard.specs.declared.Conditions.{Conditions}
 use Rattle.guard.specs.Guard.{recoversOf, noWaits}
 use Rattle.engine.specs.Engine.{momentAt}
 use Rattle.engine.proofs.Moments.{of-moment}
@@ -24,9 +24,9 @@ unfolding momentAt
 returns c =
     let at = c .before .before .before in
     let a = at .before .before .args in
-    c .recovering .ensures
-    ∙ of-moment (λ (r : Readings) (e : Extremes). recoversOf factory r e noWaits (a .seen)) (a .count) (a .records .now) (a .tick)
-    (at .record-at .ensures) (c .before .extremes .ensures)
+    let column : Readings → Extremes → Conditions = λ r e. recoversOf (a .settings) r e noWaits (a .seen) in
+    _∙_ {b = column (at .record-at .result .readings) (c .before .extremes .result)} (c .recovering .ensures)
+    (of-moment column (a .settings) (a .count) (a .records .now) (a .tick) (at .record-at .ensures) (c .before .extremes .ensures))
 
 pub recovers-spec : {M : Type 1} → statement M
 recovers-spec =

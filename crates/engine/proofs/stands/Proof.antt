@@ -5,10 +5,10 @@ use Rattle.engine.proofs.stands.Statement.{statement}
 use Rattle.engine.proofs.stands.Tie as tie
 
 abbrev Inv-loop : tie.InvT-loop
-Inv-loop records count ticks condition tick₀ tick = LooksBack condition count records ticks tick
+Inv-loop settings records count ticks condition tick₀ tick = LooksBack condition settings count records ticks tick
 
 abbrev μ-loop : tie.MeasureT-loop
-μ-loop records count ticks condition tick₀ tick = tick
+μ-loop settings records count ticks condition tick₀ tick = tick
 
 loop-holds : tie.Need-loop-holds Inv-loop μ-loop
 loop-holds c = begun
