@@ -3,5 +3,6 @@ pub mod Whole
 pub mod Kept
 pub mod Steps
 pub mod GoingOn
+pub mod Enough
 pub mod Recorded
 pub mod Engines
