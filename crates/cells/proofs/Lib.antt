@@ -1,2 +1,3 @@
 pub mod SomeEvery
+pub mod Document01
 mod Facts
