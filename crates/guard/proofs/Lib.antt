@@ -5,4 +5,5 @@ pub mod CellRows
 pub mod Account
 pub mod Calm
 pub mod QuietTicks
+pub mod Document01
 mod Facts
