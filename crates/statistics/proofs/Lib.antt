@@ -1,2 +1,3 @@
 pub mod Distance
+pub mod Document01
 mod Facts
