@@ -193,6 +193,12 @@ pub record ReadsBack (B : Behaviour) : Type 0 where
       ∷ be16 (lowHalf (distanceAt perKm (deeds cells perKm cs)))
       ++ be16 (highHalf (distanceAt perKm (deeds cells perKm cs))))
 
+-- the i-th entry of a list: an address and its register
+pub entry-at : (value : ℕ → ℕ) (s : List ℕ) (n i : ℕ) → i < n
+    → take 4 (drop (4 * i) (words (withRegister value) (addressAt s) 0 n)) ≡ withRegister value (addressAt s i)
+entry-at value s n i l =
+    word-at 4 (withRegister value) (addressAt s) 0 n i (λ w. refl) l ∙ ap (λ (j : ℕ). withRegister value (addressAt s j)) (zero-add i)
+
 -- so of a list that mixes ranges, entry by entry: where the i-th address is a setting's, its four bytes are that address and what it was
 -- last given
 pub entry-reads : (B : Behaviour) → ReadsBack B → (cells perKm : ℕ) (cs : List Call) → Typed cs → (c : Call) (s : List ℕ) (room n : ℕ)
@@ -210,8 +216,8 @@ entry-reads B reads cells perKm cs typed c s room n asks e z i l least most =
     ∙ before 4 (3 + 4 * i) (sealed body) _ (omega (arith, all, sealed-length body))
     ∙ before 4 (3 + 4 * i) body _ (omega (arith, all))
     ∙ ap (take 4) (sym (drop-drop (4 * i) 3 body))
-    ∙ word-at 4 (withRegister value) (addressAt s) 0 n i (λ w. refl) l
-    ∙ rw zero-add (ap (λ (v : ℕ). le16 (addressAt s i) ++ le16 v) (given (addressAt s i) least most))
+    ∙ entry-at value s n i l
+    ∙ ap (λ (v : ℕ). le16 (addressAt s i) ++ le16 v) (given (addressAt s i) least most)
 
 -- ---- our board after any calls
 

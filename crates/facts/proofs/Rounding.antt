@@ -1,13 +1,14 @@
 -- W-206. Registers 40 and 41, and commands 0x16 and 0x17, round to the nearest mV; protections, statistics and balancing are unchanged.
--- Beside our board stands the one that rounds down, as document 01 had it: worked out from the history of its calls, whose cells are in
--- 0.1 mV. From any start and through any calls both are in one state (settings, latches, waits, events, statistics, bits, switches), give
--- the same outcomes, switches and bits, and the same replies, but for the words of registers 40 and 41. Why: demand 2 says what our state
--- is by the same history, and only a reply rounds.
+-- The rules of document 01 on cells, currents and temperatures are written again from the paper in cells, guard and statistics (their
+-- proofs/Document01), with no definition of ours that might round; here an accepted tick is shown to keep to them, of the cells in 0.1 mV
+-- that are given to it. Beside our board stands the one that rounds down. Its state is the account of its calls, which is made of these
+-- rules, so from any start and through any calls both are in one state (settings, latches, waits, events, statistics, bits, switches), give
+-- the same outcomes, switches and bits, and the same replies but for the words of registers 40 and 41: only a reply rounds.
 -- Assumes nothing.
 use mathlib.Core.Path.{_≡_, refl, sym, ap, _∙_, subst⁻¹}
-use mathlib.Core.Bool.{true, cond, and-eq-true-iff}
-use mathlib.Core.List.{List, [], _∷_, reverse, reverseAux}
-use Prim.Native.Nat.{ℕ, _+_, _*_, _/_, _≤_, _<_}
+use mathlib.Core.Bool.{true, _||_, cond, and-eq-true-iff}
+use mathlib.Core.List.{List, [], _∷_, _++_, reverse, reverseAux}
+use Prim.Native.Nat.{ℕ, _+_, _*_, _-_, _/_, _≤_, _<_, max}
 use native.Mathlib.Omega.{arith}
 use borrow.Author.Tests.{ne-eqb, leb-true}
 use lib.Dec.{eqb, leb}
@@ -23,23 +24,92 @@ use Rattle.requests.specs.declared.Request.{Request}
 use Rattle.requests.specs.declared.Request.the-variants as request
 use Rattle.requests.specs.Requests.{addressAt, requestOf}
 use Rattle.requests.proofs.Sound.{namedBy, registerIn}
+use Rattle.cells.specs.declared.Extremes.{Extremes}
+use Rattle.cells.specs.Cells.{extremesOf}
+use Rattle.cells.proofs.Document01.{lowest, highest, register51, extremes, decisions}
+use Rattle.readings.specs.declared.Readings.{Readings}
+use Rattle.guard.proofs.Document01 as guard
+use Rattle.statistics.proofs.Document01 as statistics
 use Rattle.pack.specs.declared.Pack.{Pack}
 use Rattle.pack.specs.Pack.{usableCount}
 use Rattle.hire.specs.Hire.{newHire}
 use Rattle.hire.specs.Registers.{readingRegister}
 use Rattle.answers.specs.declared.Shown.the-variants.{Register}
 use Rattle.answers.specs.Registers.{shownAt, valueAt}
-use Rattle.answers.specs.Answers.{bodyBy, bodyOf, acceptedReply, replyBy}
+use Rattle.answers.specs.Answers.{withRegister, bodyBy, bodyOf, acceptedReply, replyBy}
 use Rattle.board.specs.declared.Board.{Board}
 use Rattle.board.specs.State.{usable}
+use Rattle.board.specs.Tick.{tickedOf}
 use Rattle.board.specs.Line.{heldIn}
-use Rattle.board.specs.Calls.{Call, Seen, frame, fetch, Lent, nothingLent, replyLent, areaLent, shape, seenOf, outcomeIn, step}
+use Rattle.board.specs.Calls.{Call, Seen, tick, frame, fetch, Lent, nothingLent, replyLent, areaLent, shape, boardBy, seenOf}
+use Rattle.board.specs.Calls.{outcomeIn, step}
 use Rattle.board.specs.Behaviour.{Behaviour, board, afterIn}
 use Rattle.board.specs.Account.{boardAt, deedsOf}
 use Rattle.board.specs.Demands.{told, reached}
+use Rattle.board.proofs.Opened.{steps}
 use Rattle.board.proofs.Shape.{is-done}
 use Rattle.board.proofs.Demands.Demand2.{account, as-told}
-use Rattle.facts.proofs.ReadsBack.{word-at, words-same, listed-same}
+use Rattle.facts.proofs.ReadsBack.{word-at, entry-at, words-same, listed-same}
+
+-- ---- a tick by document 01's rules, as proofs/Document01 of each crate has them, of the cells that are given to it
+
+module _ (b : Board) (given : List ℕ) (r : Readings) where
+  -- what an accepted tick leaves
+  abbrev ticked : Board
+  ticked = tickedOf b given r
+
+  pub accepted : outcomeIn b (tick given r) ≡ Done → step b (tick given r) .0 ≡ ticked
+  unfolding shape boardBy
+  accepted done = ap (boardBy b (shape (tick given r))) done
+
+  -- lowest and highest cell, in 0.1 mV
+  abbrev read : Extremes
+  read = record { lowest = lowest given; highest = highest given }
+
+  -- a register of the board before it and after it
+  abbrev before : ℕ → ℕ
+  before at = valueAt (b .pack) (b .hire) at
+
+  abbrev after : ℕ → ℕ
+  after at = valueAt (ticked .pack) (ticked .hire) at
+
+  pub protections : ticked .pack .guard ≡ guard.after (b .pack .settings) r read (b .pack .guard)
+  unfolding steps
+  protections =
+      guard.ticked (b .pack .settings) r (extremesOf given) (b .pack .guard)
+      ∙ ap (λ (e : Extremes). guard.after (b .pack .settings) r e (b .pack .guard)) (extremes given)
+
+  pub decision : after 51 ≡ register51 (b .pack .settings .r303) (b .pack .settings .r308) given
+  unfolding steps valueAt shownAt readingRegister
+  decision = decisions (b .pack .settings .r303) (b .pack .settings .r308) given
+
+  -- register 52 equals 51 in status 0x91 or 0x96 or with OV latched, else 0
+  pub balancing : after 52 ≡ cond (eqb (after 50) 0x91 || eqb (after 50) 0x96 || ticked .pack .guard .latched .ov) (after 51) 0
+  unfolding steps valueAt shownAt readingRegister
+  balancing = refl
+
+  pub largest-drawn : after 102 ≡ max (before 102) (statistics.drawn (r .current))
+  unfolding steps valueAt shownAt
+  largest-drawn = statistics.largest-drawn (b .hire .statistics) (r .pulses) r (extremesOf given) _ _ _ _
+
+  pub largest-fed : after 103 ≡ max (before 103) (statistics.fed (r .current))
+  unfolding steps valueAt shownAt
+  largest-fed = statistics.largest-fed (b .hire .statistics) (r .pulses) r (extremesOf given) _ _ _ _
+
+  pub largest-difference : after 104 ≡ max (before 104) (highest given - lowest given)
+  unfolding steps valueAt shownAt
+  largest-difference =
+      statistics.largest-difference (b .hire .statistics) (r .pulses) r (extremesOf given) _ _ _ _
+      ∙ ap (λ (e : Extremes). max (before 104) (e .highest - e .lowest)) (extremes given)
+
+  pub temperatures :
+      after 113
+      ≡ statistics.register113
+      (statistics.withExternal (statistics.withExternal (b .hire .statistics .temperatures) (r .external1)) (r .external2))
+  unfolding steps valueAt shownAt
+  temperatures =
+      statistics.shown (ticked .hire .statistics) (b .pack .«per_km»)
+      ∙ ap statistics.register113 (statistics.temperatures (b .hire .statistics) (r .pulses) r (extremesOf given) _ _ _ (b .pack .«per_km»))
 
 -- ---- the board that rounds down
 
@@ -143,6 +213,15 @@ other-words b bytes at n i two l lowest highest =
     word-at 2 bytes (valueDown b) at n i two l
     ∙ ap bytes (same-value b (at + i) lowest highest)
     ∙ sym (word-at 2 bytes (valueAt (b .pack) (b .hire)) at n i two l)
+
+-- of a 0x09 list that names 40 or 41 among others, every other entry: its address and its register
+pub other-entries : (b : Board) (s : List ℕ) (n i : ℕ) → i < n → (addressAt s i ≡ 40 → ⊥) → (addressAt s i ≡ 41 → ⊥)
+    → take 4 (drop (4 * i) (words (withRegister (valueDown b)) (addressAt s) 0 n))
+    ≡ take 4 (drop (4 * i) (words (withRegister (valueAt (b .pack) (b .hire))) (addressAt s) 0 n))
+other-entries b s n i l lowest highest =
+    entry-at (valueDown b) s n i l
+    ∙ ap (λ (v : ℕ). le16 (addressAt s i) ++ le16 v) (same-value b (addressAt s i) lowest highest)
+    ∙ sym (entry-at (valueAt (b .pack) (b .hire)) s n i l)
 
 -- and the whole reply to a query that names neither, to the byte
 abbrev Neither : List ℕ → Query → Type 0
