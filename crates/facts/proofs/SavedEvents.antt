@@ -1,6 +1,6 @@
 -- W-205 and W-207: the event numbers that a load takes are exactly those that ticks record, so the kept events of every board reached from
--- a start have such numbers; a save followed by a load gives the same list with everything marked as sent, and a load followed by a save
--- gives the area back.
+-- a start have such numbers; so a save followed by a load, into that board or any other, gives the same list with everything marked as
+-- sent, and a load followed by a save gives the area back.
 -- Assumes nothing.
 use mathlib.Core.Path.{_≡_, refl, sym, ap, _∙_, subst, subst⁻¹}
 use mathlib.Core.Bool.{Bool, true, false, _&&_, not, cond, false≢true}
@@ -21,10 +21,10 @@ use Rattle.laws.proofs.Lists.{latest-few, length-latest}
 use Rattle.events.specs.declared.Event.{Event}
 use Rattle.events.specs.declared.Events.{Events}
 use Rattle.events.specs.declared.Loaded.{Loaded}
-use Rattle.events.specs.Events.{capacity, eventAt, numberOf, noEvent, keptOf, sentOf}
+use Rattle.events.specs.Events.{capacity, eventAt, numberOf, noEvent, keptOf, newOf, sentOf}
 use Rattle.events.specs.Area.{areaLength, oldLength, recordedNumbers, isIn, isRecorded, neverRecorded, used, usedOf, areaOf}
 use Rattle.events.specs.Area.{loadRows, listOf, eventsIn, loadOf}
-use Rattle.events.proofs.Saved.{unrecorded, Bytes, wholeOf, whole-same, save-load, load-save, old-loads}
+use Rattle.events.proofs.Saved.{unrecorded, Bytes, wholeOf, whole-same, save-load, same-kept, none-new, load-save, old-loads}
 use Rattle.guard.specs.declared.Conditions.{Conditions}
 use Rattle.guard.specs.declared.Condition.{Condition}
 use Rattle.guard.specs.declared.Condition.the-variants.{UV, OV, OT, DOC, COC, ROC, LT}
@@ -195,9 +195,10 @@ latest-first zero es = refl
 latest-first (suc n) [] = refl
 latest-first (suc n) (e ∷ es) = ap (λ (l : List Event). l ++ (e ∷ [])) (latest-first n es)
 
--- its own area loads as the same list, everything marked as sent
-abbrev Back : Events → Type 0
-Back e = loadOf e (areaOf e) ≡ record { outcome = Done; events = sentOf e }
+-- whatever list it replaces, the area of e loads as the same list, everything marked as sent
+abbrev Back : Events → Events → Type 0
+Back f e =
+    (loadOf f (areaOf e) ≡ record { outcome = Done; events = sentOf e }) × (keptOf (sentOf e) ≡ keptOf e) × (newOf (sentOf e) ≡ [])
 
 module _ (h : List Deed) (known : KeptKnown h) where
   abbrev kept : List Event
@@ -223,8 +224,12 @@ module _ (h : List Deed) (known : KeptKnown h) where
       let count : length (reverse kept) ≡ min capacity (length (keptSince h)) = omega arith in
       ap listOf (kept-shown h) ∙ (λ i. record { list = list i; kept = count i; unsent = 0 })
 
-  account-loads : (f : Events) → loadOf f (areaOf (eventsAt h)) ≡ record { outcome = Done; events = sentOf (eventsAt h) }
-  account-loads f = save-load (eventsAt h) places kept-known f ∙ (λ i. record { outcome = Done; events = all-sent i })
+  account-loads : (f : Events) → Back f (eventsAt h)
+  account-loads f = (
+    save-load (eventsAt h) places kept-known f ∙ (λ i. record { outcome = Done; events = all-sent i }),
+    ap keptOf (sym all-sent) ∙ same-kept (eventsAt h) places kept-known,
+    ap newOf (sym all-sent) ∙ none-new (eventsAt h) places kept-known,
+  )
 
 -- what a save and a load do on a usable board
 saves : (b : Board) → usable b ≡ true → bufferAfter b (save areaLength) ≡ areaOf (b .hire .events)
@@ -266,19 +271,30 @@ module _ (cells perKm : ℕ) (cs : List Call) (some : usableCount cells ≡ true
   pub saved : step now (save areaLength) .1 .buffer ≡ areaOf (now .hire .events)
   saved = saves now usable-now
 
-  -- and loaded again it is done and gives the same board, with everything marked as sent
-  pub save-then-load :
-      (step now (load (step now (save areaLength) .1 .buffer)) .0 ≡ withEvents now (sentOf (now .hire .events)))
-      × (step now (load (step now (save areaLength) .1 .buffer)) .1 .outcome ≡ Done)
-  unfolding boardAt
-  save-then-load =
-      let made = deeds cells perKm cs in
-      let back = subst⁻¹ (λ (b : Board). Back (b .hire .events)) (account cells perKm cs)
-      (account-loads made (known-since cells perKm (reverse cs)) (eventsAt made)) in
-      let told = ap (λ (bytes : List ℕ). answerTo now (load bytes)) saved
-      ∙ loads now (areaOf (now .hire .events)) usable-now
-      ∙ ap (answerBy now) back in
-      (ap (λ (a : Answer). a .board) told, ap (λ (a : Answer). a .outcome) told)
+  -- any usable board, of this pack or another, loads it: done, and it is that board with the same list, everything marked as sent
+  module _ (other : Board) (some-other : usable other ≡ true) where
+    abbrev loading-it : Board × Seen
+    loading-it = step other (load (step now (save areaLength) .1 .buffer))
+
+    pub save-then-load :
+        (loading-it .1 .outcome ≡ Done)
+        × (loading-it .0 ≡ withEvents other (sentOf (now .hire .events)))
+        × (keptOf (loading-it .0 .hire .events) ≡ keptOf (now .hire .events))
+        × (newOf (loading-it .0 .hire .events) ≡ [])
+    unfolding boardAt
+    save-then-load =
+        let back : Back (other .hire .events) (now .hire .events) =
+        subst⁻¹ (λ (b : Board). Back (other .hire .events) (b .hire .events)) (account cells perKm cs)
+        (account-loads (deeds cells perKm cs) (known-since cells perKm (reverse cs)) (other .hire .events)) in
+        let told = ap (λ (bytes : List ℕ). answerTo other (load bytes)) saved
+        ∙ loads other (areaOf (now .hire .events)) some-other
+        ∙ ap (answerBy other) (back .0) in
+        let board-is = ap (λ (a : Answer). a .board) told in (
+          ap (λ (a : Answer). a .outcome) told,
+          board-is,
+          ap (λ (b : Board). keptOf (b .hire .events)) board-is ∙ back .1,
+          ap (λ (b : Board). newOf (b .hire .events)) board-is ∙ back .2,
+        )
 
 -- ---- a load followed by a save gives the area back, an old one with unused records after it, of any usable board
 
