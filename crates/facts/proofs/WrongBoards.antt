@@ -1,5 +1,6 @@
 -- The demands shut out wrong boards. Demand 1: a board that accepts everything, one that leaves a byte of the last reply behind the next,
--- one that answers 4 where 3 is due, one that holds a frame still which it refused, one that is done with a start of three cells. Demand 2:
+-- one that answers 4 where 3 is due, one that holds a frame still which it refused and one that keeps a byte of it, one that is done with a
+-- start of three cells. Demand 2:
 -- a board that NACKs everything, one that always replies idle, one that answers its first frame and repeats it, statistics with invented
 -- counts. Demand 3: a handover that does nothing, and one that shows the last rider's switches once more. Some of the first look the same
 -- for two riders: the ones that NACK everything or reply idle meet demand 3, so demand 3 is stated of boards that meet demand 2. And that a
@@ -22,14 +23,16 @@ use Rattle.refusals.specs.declared.Outcome.{Outcome}
 use Rattle.refusals.specs.declared.Outcome.the-variants.{Done, Refused}
 use Rattle.refusals.specs.Refusals.{numberOf, isDone}
 use Rattle.readings.specs.Readings.{noReadings}
+use Rattle.receiver.specs.Receiver.{noBytes, withByte}
 use Rattle.settings.specs.Settings.{factory}
 use Rattle.requests.specs.Requests.{addressAt}
 use Rattle.statistics.specs.declared.Statistics.{Statistics}
 use Rattle.board.specs.declared.Board.{Board}
-use Rattle.board.specs.State.{withSettings, withStatistics}
+use Rattle.board.specs.State.{withSettings, withStatistics, withReceiver}
 use Rattle.board.specs.Start.{startBoard}
 use Rattle.replies.specs.Replies.{padded, sealed, nackOf}
-use Rattle.board.specs.Calls.{Call, tick, frame, handover, offer, fetch, Lent, nothingLent, replyLent, areaLent, shape, Seen, seen, step}
+use Rattle.board.specs.Calls.{Call, tick, frame, handover, offer, fetch, Lent, nothingLent, replyLent, areaLent, shape, letsGo, Seen, seen}
+use Rattle.board.specs.Calls.{step}
 use Rattle.board.specs.Behaviour.{Behaviour, board}
 use Rattle.board.specs.Account.{hands, distanceAt}
 use Rattle.board.specs.Demands.{deeds, Demand1, Demand2, SameKept, Demand3}
@@ -135,6 +138,25 @@ pub holding-on-fails : ¬ Demand1 holdingOn
 unfolding accounted
 holding-on-fails h =
     let z : _≡_ {A = ℕ} 3 7 = ap numberOf (h .lets-go 4 2000 (offer (0xAA ∷ 0x18 ∷ 0x7F ∷ 0x1B ∷ []) ∷ []) 259 refl .0) in omega arith
+
+-- ---- one that lets it go, but for its first byte
+
+abbrev rests : Board → Call → Board × Seen
+rests b c =
+    let a = step b c .1 in
+    (cond (letsGo (shape c) (a .outcome)) (withReceiver b (withByte noBytes 0xAA)) (step b c .0), a)
+
+abbrev pub resting : Behaviour
+resting = record { State = Board; start = startBoard; started = board .started; step = rests }
+
+-- three bytes offered then are the rest of a frame, where nothing is held and 7 is due
+pub resting-fails : ¬ Demand1 resting
+unfolding accounted
+resting-fails h =
+    let e = h .lets-all-go 4 2000 [] (offer (0xAA ∷ 0x18 ∷ 0x7F ∷ 0x1B ∷ []) ∷ []) 259 refl refl refl
+    (offer (0x18 ∷ 0x7F ∷ 0x1A ∷ []) ∷ fetch 259 ∷ []) in
+    let z : _≡_ {A = ℕ} 0 7 = ap (λ (answers : List Seen). numberOf (outcomeAt 1 answers)) e in
+    omega arith
 
 -- ---- 4 where 3 is due
 
