@@ -49,10 +49,11 @@ impl Board {
     {
         let asked = requests::parsed(request);
         let outcome = answers::answer(self.pack, self.hire, request, asked, reply);
-        if !outcome.is_done() {
-            return self.with_outcome(outcome);
+        let is_taken = outcome.is_done();
+        if is_taken {
+            return self.changed(request, asked).with_outcome(outcome);
         }
-        self.changed(request, asked).with_outcome(outcome)
+        self.with_outcome(outcome)
     }
 
     // The board after an accepted request: nothing changes but by 0x02's clears, a write, and 0x11's mark.

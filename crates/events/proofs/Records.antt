@@ -1,5 +1,5 @@
--- Records in an area: put one by one, read by their place, counted up to the first unused one, and copied into the last places; whatever
--- the capacity. Assumes nothing.
+-- Records in an area: put one by one, read by their place, counted up to the first unused one, and copied into the last places. The
+-- capacity is 62; no proof here uses which number it is. Assumes nothing.
 use mathlib.Core.Path.{_≡_, refl, sym, ap, ap₂, _∙_}
 use mathlib.Core.Bool.{Bool, true, false, _||_, not, cond, or-false, or-assoc}
 use mathlib.Core.List.{List, [], _∷_, _++_, append-assoc, append-nil}

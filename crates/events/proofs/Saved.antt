@@ -1,6 +1,6 @@
 -- A save followed by a load gives the same list with everything marked as sent, if the kept events have numbers that the board records; and
--- a load followed by a save gives the area back. Whatever the capacity. An old area loads as the area it makes with unused records after
--- it, and what was saved into it is loaded; of any capacity from 48 on. Assumes nothing.
+-- a load followed by a save gives the area back. An old area loads as the area it makes with unused records after it, and what was saved
+-- into it is loaded. Of the capacity, 62, they use that it is at least 48. Assumes nothing.
 use mathlib.Core.Path.{_≡_, refl, sym, ap, ap₂, _∙_, subst⁻¹}
 use mathlib.Core.Bool.{Bool, true, false, _&&_, not, cond, false≢true}
 use mathlib.Core.List.{List, [], _∷_, _++_, append-assoc, append-nil}

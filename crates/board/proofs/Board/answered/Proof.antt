@@ -1,6 +1,6 @@
 -- What is asked is answered, and changes what it changes where it is done. Assumes nothing.
 use mathlib.Core.Path.{_≡_, refl, sym, ap, _∙_}
-use mathlib.Core.Bool.{Bool, true, false, not, cond}
+use mathlib.Core.Bool.{Bool, cond}
 use mathlib.Core.List.{List}
 use Prim.Native.Nat.{ℕ}
 use Rattle.refusals.specs.declared.Outcome.{Outcome}
@@ -12,7 +12,6 @@ use Rattle.board.specs.declared.Answer.{Answer}
 use Rattle.board.specs.declared.Board.{Board}
 use Rattle.board.specs.Changes.{changedBy}
 use Rattle.board.specs.Promises.{requestOutcome, Answered}
-use Rattle.board.proofs.Shape.{not-true-false, not-false-true}
 use borrow.Author.Needs.{needs}
 use Rattle.board.proofs.Board.answered.Statement.{statement}
 use Rattle.board.proofs.Board.answered.Tie as tie
@@ -30,12 +29,10 @@ module _ (b : Board) (s : List ℕ) {before after : List ℕ} {q : Request} {o :
         reply = rw asked at (told .reply-is);
       }
 
-  refuses : {t : Bool} {r : Answer} → t ≡ isDone o → not t ≡ true → r ≡ record { outcome = o; board = b } → Answered b s before r after
-  refuses {t} tested f p = all (ap (λ (d : Bool). cond d (changedBy b s q) b) (sym (not-true-false t f) ∙ tested)) p
-
-  does : {t : Bool} {r : Answer} {x : Board} → t ≡ isDone o → not t ≡ false → x ≡ changedBy b s q → r ≡ record { outcome = o; board = x }
+  -- by the test: what it changes, or the board as it was
+  by-test : {t : Bool} {r : Answer} {x : Board} → t ≡ isDone o → x ≡ cond t (changedBy b s q) b → r ≡ record { outcome = o; board = x }
       → Answered b s before r after
-  does {t} tested f e p = all (e ∙ ap (λ (d : Bool). cond d (changedBy b s q) b) (sym (not-false-true t f) ∙ tested)) p
+  by-test tested e p = all (e ∙ ap (λ (d : Bool). cond d (changedBy b s q) b) tested) p
 
 parsed-requires : tie.Need-parsed-requires
 parsed-requires c κs = search needs
@@ -46,6 +43,9 @@ answer-requires c κs = search needs
 is-done-requires : tie.Need-is-done-requires
 is-done-requires c κs = search needs
 
+changed-requires : tie.Need-changed-requires
+changed-requires c κs = search needs
+
 with-outcome-requires : tie.Need-with-outcome-requires
 with-outcome-requires c κs = search needs
 
@@ -54,14 +54,11 @@ same-length c = search needs
 
 returns : tie.Need-returns
 returns c =
-    let then1 = c .before in
+    let then1 = c .before .before in
     let tested = then1 .before in
     let answer = tested .before .before .before in
-    refuses _ _ (answer .before .before .parsed .ensures) (answer .answer .ensures) (tested .is-done .ensures) (then1 .if1 .taken)
-    (c .with-outcome .ensures)
-
-changed-requires : tie.Need-changed-requires
-changed-requires c κs = search needs
+    by-test _ _ (answer .before .before .parsed .ensures) (answer .answer .ensures) (sym (then1 .if1 .taken) ∙ tested .is-done .ensures)
+    (c .before .changed .ensures) (c .with-outcome .ensures)
 
 with-outcome-requires-2 : tie.Need-with-outcome-requires-2
 with-outcome-requires-2 c κs = search needs
@@ -71,11 +68,11 @@ same-length-2 c = search needs
 
 returns-2 : tie.Need-returns-2
 returns-2 c =
-    let else1 = c .before .before in
+    let else1 = c .before in
     let tested = else1 .before in
     let answer = tested .before .before .before in
-    does _ _ (answer .before .before .parsed .ensures) (answer .answer .ensures) (tested .is-done .ensures) (else1 .if1 .left)
-    (c .before .changed .ensures) (c .with-outcome2 .ensures)
+    by-test _ _ (answer .before .before .parsed .ensures) (answer .answer .ensures) (sym (else1 .if1 .left) ∙ tested .is-done .ensures)
+    refl (c .with-outcome2 .ensures)
 
 pub answered-spec : {M : Type 1} → statement M
 answered-spec =
@@ -84,10 +81,10 @@ answered-spec =
     parsed-requires
     answer-requires
     is-done-requires
+    changed-requires
     with-outcome-requires
     same-length
     returns
-    changed-requires
     with-outcome-requires-2
     same-length-2
     returns-2)
