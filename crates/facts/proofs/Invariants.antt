@@ -1,20 +1,20 @@
 -- The definitions hold many a number to an end, so that every board is safe. On a board that calls reach from a start none of these
 -- ends changes a number (the one of the summed pulses, nothing that is shown). Why: the board is the one that its deeds make
--- (`account`), and a deed that is a tick was judged good; so each bound is a law of lists over the accepted ticks. Numbers from outside
--- have their machine types, which lists do not carry: where that is needed, `Typed` says it of cells and bytes, and `km-per-hour` of the
--- pulses per km. Ends that the paper itself sets are met, and are not meant here: 62 events, the 65,535 of a count, the 2^32 - 1 of
--- clock and distance, the byte of whole degrees. Assumes nothing.
+-- (`account`), and a deed that is a tick was judged good; so each bound is a law of lists over the accepted ticks; the receiver's room
+-- alone goes by the calls. Numbers from outside have their machine types, which lists do not carry: where that is needed, `Typed` says it
+-- of cells and bytes, and `km-per-hour` of the pulses per km. Ends that the paper itself sets are met, and are not meant here: 62 events,
+-- the 65,535 of a count, the 2^32 - 1 of clock and distance, the byte of whole degrees. Assumes nothing.
 use mathlib.Core.Path.{_≡_, refl, sym, ap, _∙_, subst, subst⁻¹}
 use mathlib.Core.Bool.{Bool, true, false, _&&_, _||_, cond, false≢true}
 use mathlib.Core.List.{List, [], _∷_, _++_, map, reverse, reverseAux}
 use Prim.Native.Nat.{ℕ, zero, suc, _+_, _*_, _-_, _/_, _^_, _≤_, _<_, min, max}
 use native.Mathlib.Nat.{zero-add, add-zero, mul-pos, not-suc-le-zero}
 use native.Mathlib.Omega.{arith}
-use borrow.Author.Tests.{eqb-true, leb-true, le-leb, lt-leb, ltb-true, ltb-false, ne-eqb, not-false}
+use borrow.Author.Tests.{eqb-true, leb-true, leb-false, le-leb, lt-leb, ltb-true, ltb-false, ne-eqb, not-false}
 use lib.Dec.{eqb, leb, ltb}
 use lib.IntN.{ℤ, pos, negsuc}
-use lib.ListN.{length, take, getD, length-append}
-use lib.Seq.{take-all}
+use lib.ListN.{length, take, drop, getD, length-append, length-drop}
+use lib.Seq.{take-all, take-append-seam}
 use lib.Ieee.{Float, nan, inf, fin, Format, binary32, low, prec, emax, up, odd, units, round, div, ofInt, isNan}
 use lib.Ieee.Exact.{HasValue}
 use lib.Ieee.Fits.{round-is, down-pos}
@@ -37,6 +37,7 @@ use Rattle.settings.specs.Settings.{registerOf}
 use Rattle.settings.proofs.Drafts as settings
 use Rattle.signed.specs.Signed.{above, below}
 use Rattle.statistics.specs.Statistics.{hundreds}
+use Rattle.refusals.specs.Refusals.{isDone}
 use Rattle.answers.specs.declared.Shown.{Shown}
 use Rattle.answers.specs.declared.Shown.the-variants.{Register, Nothing}
 use Rattle.answers.specs.Registers.{shownAt}
@@ -45,29 +46,38 @@ use Rattle.requests.specs.declared.Query.{Query}
 use Rattle.requests.specs.declared.Query.the-variants.{Registers, Listed, Bare, NewEvents, AllEvents, Temperatures, Cells, SettingsOf}
 use Rattle.requests.specs.declared.Request.{Request}
 use Rattle.requests.specs.declared.Request.the-variants as request
-use Rattle.hire.specs.Hire.{noSensed}
-use Rattle.requests.specs.Requests.{inOneRange, requestOf, addressAt, marks}
+use Rattle.hire.specs.Hire.{noSensed, newHire}
+use Rattle.requests.specs.Requests.{lengthOf, foreign, inOneRange, requestOf, addressAt, marks}
 use Rattle.numbers.specs.Numbers.{be16At, le16At}
 use Rattle.writes.specs.declared.Form.{Form}
 use Rattle.writes.specs.declared.Form.the-variants as form
 use Rattle.writes.specs.declared.Pair.{Pair}
 use Rattle.writes.specs.Writes.{pairAt, pairsOf}
-use Rattle.receiver.specs.Receiver.{taken}
+use Rattle.receiver.specs.declared.Receiver.{Receiver}
+use Rattle.receiver.specs.Receiver.{noBytes, heldOf, holding, isHeld, skips, withByte, filled, taken}
 use Rattle.receiver.specs.Heard.{begun}
-use Rattle.receiver.proofs.Heard.{held}
+use Rattle.receiver.proofs.Heard.{held, ours}
 use Rattle.board.proofs.Account.Calls.{heard-more}
 use Rattle.board.specs.Calls.{Call, tick, frame, handover, offer, fetch, save, load, shape}
 use Rattle.board.specs.Changes.{askedDeeds}
-use Rattle.board.specs.Line.{heldIn}
-use Rattle.board.specs.Behaviour.{board}
+use Rattle.board.specs.Calls.{letsGo, boardBy, outcomeIn, boardAfter}
+use Rattle.board.specs.Handover.{handedOver}
+use Rattle.board.specs.Line as line
+use Rattle.board.specs.Line.{heldIn, letGo}
+use Rattle.board.specs.Start.{startBoard}
+use Rattle.board.specs.Behaviour.{board, afterIn}
 use Rattle.board.specs.Demands.{deeds, reached}
 use Rattle.board.specs.Account.{Deed, took, wrote, cleared, forgot, sent, handed, heard, fetched, loaded, row, hands, ticking}
 use Rattle.board.specs.Account.{settingsAt, secondsAt, clockAt, momentOf, momentsAt, latchedAt, waitsAt, rememberedAt, sensedOf, sensedAt}
-use Rattle.board.specs.Account.{windowAt, keptSince, newSince, eventsAt, heardAt, boardAt, deedsOf}
+use Rattle.board.specs.Account.{windowAt, keptSince, newSince, eventsAt, heardAt, heldAt, boardAt, deedsOf}
 use Rattle.board.proofs.Account.Deeds.{Good, May, Each, Bring, after-calls, after-typed}
 use Rattle.board.proofs.Account.Shown.{newest-kept}
 use Rattle.board.proofs.Account.Settings.{Fits, ranges, kept, wait-some}
 use Rattle.requests.proofs.Sound.{namedBy, registerIn, inRange, readsInRange, each-shown, sound}
+use Rattle.requests.proofs.Sound as requests
+use Rattle.board.proofs.Opened.{steps}
+use Rattle.board.proofs.Deaf.{request-changes}
+use Rattle.board.proofs.Demands.Demand1.{held-by-history, frame-by-history}
 use Rattle.board.proofs.Demands.Demand2.{account}
 use Rattle.facts.proofs.Calls.{shownBy}
 
@@ -484,6 +494,85 @@ live-real h = go (ticksSince hands h)
       quotient-real (t .1 .current) 1000 (omega arith) (omega arith),
     )
 
+-- ---- the receiver: a frame has 264 bytes at most, and a byte is taken only while it is not complete. What was not complete no deed tells,
+-- so this goes by the calls
+
+record InRoom (r : Receiver) : Type 0 where
+  room : length (r .bytes) ≡ 264
+  few : r .count ≤ 264
+  bytes : Bytes (heldOf r)
+
+none-in-room : InRoom noBytes
+none-in-room = record { room = refl; few = omega arith; bytes = tt }
+
+other-in-room : (r : Receiver) (xs : List ℕ) → InRoom r → length xs ≤ 264 → Bytes xs → InRoom (holding xs r)
+other-in-room r xs i few p =
+    let behind = drop (length xs) (r .bytes) in
+    let both = length-append xs behind in
+    let left = length-drop (length xs) (r .bytes) in
+    let all = i .room in
+    record { room = omega arith; few = few; bytes = subst⁻¹ Bytes (take-append-seam xs behind) p }
+
+not-full : (r : Receiver) → isHeld r ≡ false → Bytes (heldOf r) → length (heldOf r) < 264
+unfolding isHeld lengthOf
+not-full r e p =
+    let h = heldOf r in
+    let more = leb-false (lengthOf h) (length h) e in
+    let most = requests.most (getD h 1 0) (getD h 2 0) (getD h 6 0) (byte h 2 p) (byte h 6 p) in
+    omega arith
+
+byte-in-room : (r : Receiver) (b : ℕ) → b ≤ 255 → isHeld r ≡ false → InRoom r → InRoom (withByte r b)
+unfolding withByte
+byte-in-room r b small e i = go (skips (heldOf r) b)
+  where
+    go : (t : Bool) → InRoom (cond t r (holding (heldOf r ++ (b ∷ [])) r))
+    go true = i
+    go false =
+        let less = not-full r e (i .bytes) in
+        let one = length-append (heldOf r) (b ∷ []) in
+        other-in-room r (heldOf r ++ (b ∷ [])) i (omega arith) (all-append (λ b. b ≤ 255) (heldOf r) (b ∷ []) (i .bytes) (small, tt))
+
+offer-in-room : (bytes : List ℕ) (r : Receiver) → Bytes bytes → InRoom r → InRoom (filled r bytes)
+offer-in-room [] r p i = i
+offer-in-room (b ∷ bytes) r p i = go (isHeld r) refl (offer-in-room bytes (withByte r b) (p .1))
+  where
+    go : (t : Bool) → isHeld r ≡ t → (InRoom (withByte r b) → InRoom (filled (withByte r b) bytes))
+        → InRoom (cond t r (filled (withByte r b) bytes))
+    go true e later = i
+    go false e later = later (byte-in-room r b (p .0) e i)
+
+-- each call keeps it so
+abbrev BoardInRoom : Board → Type 0
+BoardInRoom b = InRoom (b .hire .receiver)
+
+done-in-room : (b : Board) (c : Call) → TypedCall c → BoardInRoom b → BoardInRoom (shape c .done b)
+unfolding shape steps handedOver newHire
+done-in-room b (tick given r) t i = i
+done-in-room b (frame s room) t i = subst⁻¹ BoardInRoom (request-changes b (b .hire .receiver) s (requestOf s)) i
+done-in-room b handover t i = none-in-room
+done-in-room b (offer bytes) t i = offer-in-room bytes (b .hire .receiver) t i
+done-in-room b (fetch room) t i = none-in-room
+done-in-room b (save n) t i = i
+done-in-room b (load area) t i = i
+
+call-in-room : (b : Board) (c : Call) → TypedCall c → BoardInRoom b → BoardInRoom (boardAfter b c)
+unfolding boardBy
+call-in-room b c t i = go (isDone (outcomeIn b c)) (letsGo (shape c) (outcomeIn b c))
+  where
+    go : (u v : Bool) → BoardInRoom (cond u (shape c .done b) (cond v (letGo b) b))
+    go true v = done-in-room b c t i
+    go false true = none-in-room
+    go false false = i
+
+calls-in-room : (cs : List Call) (b : Board) → Typed cs → BoardInRoom b → BoardInRoom (afterIn board b cs)
+unfolding afterIn
+calls-in-room [] b t i = i
+calls-in-room (c ∷ cs) b t i = calls-in-room cs (boardAfter b c) (t .1) (call-in-room b c (t .0) i)
+
+reached-in-room : (cells perKm : ℕ) (cs : List Call) → Typed cs → BoardInRoom (reached board cells perKm cs)
+unfolding startBoard newHire
+reached-in-room cells perKm cs t = calls-in-room cs (startBoard cells perKm) t none-in-room
+
 -- ---- the board after any calls
 
 pub record Bounds (cells perKm : ℕ) (cs : List Call) (b : Board) : Type 0 where
@@ -522,6 +611,14 @@ pub record Bounds (cells perKm : ℕ) (cs : List Call) (b : Board) : Type 0 wher
   pub volts : isNan (b .hire .sensed .live .volts) ≡ false
   pub amps : isNan (b .hire .sensed .live .amps) ≡ false
   pub km-per-hour : 1 ≤ perKm → perKm ≤ 65535 → isNan (quotient (pos (3600 * gather _+_ 0 (b .hire .window))) (b .pack .«per_km»)) ≡ false
+  -- the end of `take` in `heldOf`: what has come of a frame is what the history tells, and the count is its length
+  pub held : heldIn b ≡ heldAt (deeds cells perKm cs)
+  pub held-count : b .hire .receiver .count ≡ length (heldIn b)
+  -- the 2 of `lost`: a held frame is the board's own, so a fetch is never answered 2
+  pub held-own : line.holds b ≡ true → foreign (heldIn b) ≡ false
+  -- a count past 264, which `receiver` takes for 264
+  pub room : Typed cs → length (b .hire .receiver .bytes) ≡ 264
+  pub held-most : Typed cs → b .hire .receiver .count ≤ 264
 
 module _ (cells perKm : ℕ) (cs : List Call) where
   -- what the calls did
@@ -540,6 +637,9 @@ module _ (cells perKm : ℕ) (cs : List Call) where
   window-length : length (windowAt made) ≡ 10
   unfolding windowAt
   window-length = length-latest 10 0 (map (λ t. t .1 .pulses) (ticksSince hands made))
+
+  in-room : Typed cs → BoardInRoom (boardAt cells perKm made)
+  in-room t = subst BoardInRoom (account cells perKm cs) (reached-in-room cells perKm cs t)
 
   made-bounds : Bounds cells perKm cs (boardAt cells perKm made)
   unfolding boardAt eventsAt clockAt secondsAt latchedFrom waitsFrom latchedAt waitsAt rememberedAt
@@ -578,6 +678,13 @@ module _ (cells perKm : ℕ) (cs : List Call) where
         volts = live-real made .0;
         amps = live-real made .1;
         km-per-hour = λ some held. quotient-real (pos (3600 * gather _+_ 0 (windowAt made))) perKm some (omega arith);
+        held = frame-by-history cells perKm made;
+        held-count = ap length (sym (held (heardAt made)));
+        held-own = λ e.
+            subst⁻¹ (λ s. foreign s ≡ false) (frame-by-history cells perKm made)
+            (ours (heardAt made) (sym (held-by-history cells perKm made) ∙ e));
+        room = λ t. in-room t .room;
+        held-most = λ t. in-room t .few;
       }
 
   pub bounds : Bounds cells perKm cs (reached board cells perKm cs)

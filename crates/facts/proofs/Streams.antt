@@ -1,13 +1,17 @@
--- W-201, computed: the longest frame byte by byte and the frame after it; noise, a frame with a bad CRC, and what a handover drops.
+-- W-201, computed: the longest frame byte by byte and the frame after it; noise, a frame with a bad CRC, and what a handover drops; and a
+-- fetch on a board that no call reaches.
 -- Assumes nothing.
 use mathlib.Core.Path.{_≡_, refl}
 use mathlib.Core.List.{List, [], _∷_, _++_, map}
 use Prim.Native.Nat.{ℕ}
 use lib.ListN.{length, take, drop, replicate}
-use Rattle.refusals.specs.declared.Refusal.the-variants.{NoRoom, Damaged, WrongField, FrameHeld, NoFrameHeld}
+use Rattle.refusals.specs.declared.Refusal.the-variants.{NoRoom, Foreign, Damaged, WrongField, FrameHeld, NoFrameHeld}
 use Rattle.refusals.specs.declared.Outcome.{Outcome}
 use Rattle.refusals.specs.declared.Outcome.the-variants.{Done, Refused}
 use Rattle.replies.specs.Replies.{sealed}
+use Rattle.receiver.specs.Receiver.{noBytes, holding}
+use Rattle.board.specs.declared.Board.{Board}
+use Rattle.board.specs.State.{withReceiver}
 use Rattle.board.specs.Start.{startBoard}
 use Rattle.board.specs.Calls.{Call, Seen, offer, fetch, handover}
 use Rattle.board.specs.Behaviour.{board, answersIn}
@@ -63,3 +67,15 @@ pub dropped :
     ≡ (Done, 2) ∷ (Done, 0) ∷ (Done, 2) ∷ (Refused NoFrameHeld, 0) ∷ (Done, 4) ∷ (Done, 0) ∷ (Refused NoFrameHeld, 0) ∷ []
 unfolding opened
 dropped = refl
+
+-- ---- a board that no call reaches (Invariants.bounds, held-own)
+
+-- four bytes are held that are no frame: an offer is refused by 6, a fetch answers 2 and lets them go, and the next answers 7
+abbrev noFrame : Board
+noFrame = withReceiver (startBoard 4 2000) (holding (0x00 ∷ 0x00 ∷ 0x00 ∷ 0x00 ∷ []) noBytes)
+
+pub foreign-held :
+    map (λ a. a .outcome) (answersIn board noFrame (offer [] ∷ fetch 259 ∷ fetch 259 ∷ []))
+    ≡ Refused FrameHeld ∷ Refused Foreign ∷ Refused NoFrameHeld ∷ []
+unfolding opened
+foreign-held = refl
