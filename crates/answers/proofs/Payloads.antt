@@ -1,13 +1,12 @@
 -- W-209 of document 02: with 127 registers, 62 events, 16 cells, 100 settings and the list reads of W-202, no payload exceeds 254. Why: a
--- request counts no more than its command may (`requests`, Sound), at most 62 events are kept, and a usable pack has at most 16 cells.
+-- request counts no more than its command may (`requests`, Sound), at most 62 events are kept, and a board has at most 16 cells.
 -- Assumes nothing.
 use mathlib.Core.Path.{_≡_}
-use mathlib.Core.Bool.{true, and-eq-true-iff}
+use mathlib.Core.Bool.{true}
 use mathlib.Core.List.{List}
 use Prim.Native.Nat.{ℕ, _+_, _*_, _≤_}
 use native.Mathlib.Omega.{arith}
 use borrow.Author.Tests.{leb-true}
-use lib.Dec.{leb}
 use Rattle.events.proofs.Counts.{kept-most, new-most}
 use Rattle.requests.specs.declared.Query.{Query}
 use Rattle.requests.specs.declared.Query.the-variants.{Registers, Listed, Bare, NewEvents, AllEvents, Temperatures, Cells, SettingsOf}
@@ -15,7 +14,6 @@ use Rattle.requests.specs.declared.Request.the-variants as request
 use Rattle.requests.specs.Requests.{requestOf}
 use Rattle.requests.proofs.Sound.{counted, sound}
 use Rattle.pack.specs.declared.Pack.{Pack}
-use Rattle.pack.specs.Pack.{usable}
 use Rattle.hire.specs.declared.Hire.{Hire}
 use Rattle.answers.specs.Answers.{payloadOf}
 
@@ -31,18 +29,16 @@ mostOf Temperatures = 6
 mostOf Cells = 2 * 16
 mostOf (SettingsOf kind n) = 2 * 100
 
-pub within-most : (p : Pack) (h : Hire) (q : Query) → counted q ≡ true → usable p ≡ true → payloadOf p h q ≤ mostOf q
+pub within-most : (p : Pack) (h : Hire) (q : Query) → counted q ≡ true → payloadOf p h q ≤ mostOf q
 unfolding counted payloadOf mostOf
-within-most p h (Registers command at n) few some = let most = leb-true n 127 few in omega arith
-within-most p h (Listed n) few some = let most = leb-true n 63 few in omega arith
-within-most p h (Bare command at n) few some = let most = leb-true n 2 few in omega arith
-within-most p h NewEvents few some = omega (arith, new-most (h .events))
-within-most p h AllEvents few some = omega (arith, kept-most (h .events))
-within-most p h Temperatures few some = omega arith
-within-most p h Cells few some =
-    let most = leb-true (p .cells) 16 (and-eq-true-iff (leb 4 (p .cells)) (leb (p .cells) 16) .0 some .1) in
-    omega arith
-within-most p h (SettingsOf kind n) few some = let most = leb-true n 100 few in omega arith
+within-most p h (Registers command at n) few = let most = leb-true n 127 few in omega arith
+within-most p h (Listed n) few = let most = leb-true n 63 few in omega arith
+within-most p h (Bare command at n) few = let most = leb-true n 2 few in omega arith
+within-most p h NewEvents few = omega (arith, new-most (h .events))
+within-most p h AllEvents few = omega (arith, kept-most (h .events))
+within-most p h Temperatures few = omega arith
+within-most p h Cells few = omega arith
+within-most p h (SettingsOf kind n) few = let most = leb-true n 100 few in omega arith
 
 most-254 : (q : Query) → mostOf q ≤ 254
 unfolding mostOf
@@ -55,6 +51,6 @@ most-254 Temperatures = omega arith
 most-254 Cells = omega arith
 most-254 (SettingsOf kind n) = omega arith
 
--- no payload exceeds 254: of whatever bytes the request is made, and whatever a usable pack and its hire hold
-pub payload-most : (p : Pack) (h : Hire) (s : List ℕ) (q : Query) → requestOf s ≡ request.Read q → usable p ≡ true → payloadOf p h q ≤ 254
-payload-most p h s q asks some = omega (arith, within-most p h q (rw asks at (sound s .few)) some, most-254 q)
+-- no payload exceeds 254, of whatever bytes the request is made, and whatever pack and hire hold
+pub payload-most : (p : Pack) (h : Hire) (s : List ℕ) (q : Query) → requestOf s ≡ request.Read q → payloadOf p h q ≤ 254
+payload-most p h s q asks = omega (arith, within-most p h q (rw asks at (sound s .few)), most-254 q)

@@ -1,107 +1,53 @@
--- W-209 of document 02: no payload exceeds 254, for every accepted request and every board reachable from a start; so number 5 is never
--- the outcome of a call. Why: `answers`, Payloads, whatever a usable board holds; 21 stands before 5 on a board that is none.
--- Assumes nothing.
-use mathlib.Core.Path.{_≡_, refl, sym, ap, _∙_}
-use mathlib.Core.Bool.{Bool, true, false, _&&_, _||_, not, and-eq-true-iff, false≢true}
-use mathlib.Core.List.{List, [], _∷_, _++_, map}
+-- W-209 of document 02: no payload exceeds 254, for every accepted request and every board reachable from a start; so a query is accepted
+-- wherever it is read, and number 5 is gone. Why: `answers`, Payloads, whatever a board holds. Assumes nothing.
+use mathlib.Core.Path.{_≡_, refl, ap, _∙_}
+use mathlib.Core.Bool.{Bool, true, false, _&&_, _||_, and-eq-true-iff}
+use mathlib.Core.List.{List, [], _∷_, map}
 use Prim.Native.Nat.{ℕ, _+_, _≤_}
 use native.Mathlib.Omega.{arith}
-use borrow.Author.Tests.{leb-true, le-ltb, not-true}
-use lib.Dec.{eqb, leb, ltb}
+use borrow.Author.Tests.{leb-true}
+use lib.Dec.{leb, ltb}
 use lib.ListN.{getD, replicate}
-use Rattle.refusals.specs.declared.Refusal.{Refusal}
-use Rattle.refusals.specs.declared.Refusal.the-variants.{NoRoom, TooLong, NoFrameHeld}
 use Rattle.refusals.specs.declared.Outcome.{Outcome}
-use Rattle.refusals.specs.declared.Outcome.the-variants.{Done, Refused}
-use Rattle.refusals.specs.Refusals.{refusalNumber, numberOf, first}
-use Rattle.refusals.proofs.Rows.{andThen, first-append}
-use Rattle.events.specs.Area.{loadRows}
+use Rattle.refusals.specs.declared.Outcome.the-variants.{Done}
 use Rattle.requests.specs.declared.Query.{Query}
 use Rattle.requests.specs.declared.Query.the-variants.{Registers}
-use Rattle.requests.specs.declared.Request.{Request}
 use Rattle.requests.specs.declared.Request.the-variants as request
-use Rattle.requests.specs.Requests.{requestRows, requestOf}
+use Rattle.requests.specs.Requests.{requestOf}
 use Rattle.requests.proofs.Sound.{inRange, readsInRange, sound}
-use Rattle.requests.proofs.Outcomes.{isRefused, accepted, not-refused}
 use Rattle.replies.specs.Replies.{sealed}
-use Rattle.answers.specs.Answers.{payloadOf, replyBytes, askedRows}
+use Rattle.answers.specs.Answers.{cellsOf, payloadOf, replyBytes, askedOutcome}
 use Rattle.answers.proofs.Payloads.{payload-most}
+use Rattle.answers.proofs.Made.{most-259}
 use Rattle.board.specs.declared.Board.{Board}
 use Rattle.board.specs.State.{usable}
 use Rattle.board.specs.Start.{startBoard}
-use Rattle.board.specs.Line.{heldIn, holds}
-use Rattle.board.specs.Calls.{Call, tick, frame, handover, offer, fetch, save, load, shape, frameRows, outcomeIn, bufferAfter}
+use Rattle.board.specs.Calls.{Call, frame, outcomeIn, bufferAfter}
 use Rattle.board.specs.Behaviour.{board}
 use Rattle.board.specs.Demands.{reached}
-use Rattle.board.proofs.Shape.{none-21, by-rows, is-done}
 use Rattle.board.proofs.Opened.{opened}
+use Rattle.facts.proofs.RawLine.{frame-whole}
 
--- no payload exceeds 254
-pub payloads : (cells perKm : ℕ) (cs : List Call) (s : List ℕ) (room : ℕ) (q : Query)
-    → outcomeIn (reached board cells perKm cs) (frame s room) ≡ Done → requestOf s ≡ request.Read q
-    → payloadOf (reached board cells perKm cs .pack) (reached board cells perKm cs .hire) q ≤ 254
-payloads cells perKm cs s room q done asks =
-    let b = reached board cells perKm cs in
-    payload-most (b .pack) (b .hire) s q asks (is-done b (shape (frame s room)) done .0)
+-- no payload exceeds 254, and no whole reply 259 bytes
+module _ (cells perKm : ℕ) (cs : List Call) (s : List ℕ) where
+  abbrev after : Board
+  after = reached board cells perKm cs
 
--- ---- number 5 is never the outcome
+  pub payloads : (q : Query) → requestOf s ≡ request.Read q → payloadOf (after .pack) (after .hire) q ≤ 254
+  payloads q asks = payload-most (after .pack) (after .hire) s q asks
 
-abbrev five : Outcome → Bool
-five outcome = eqb (numberOf outcome) 5
+  pub frames : replyBytes (after .pack) (after .hire) (requestOf s) ≤ 259
+  frames = most-259 (after .pack) (after .hire) s
 
--- none of the rows is number 5
-abbrev others : List (Refusal × Bool) → Bool
-others [] = true
-others ((refusal, applies) ∷ rest) = not (eqb (refusalNumber refusal) 5) && others rest
+-- a query is accepted by every usable board
+pub accepted : (b : Board) (s : List ℕ) (room : ℕ) (q : Query) → usable b ≡ true → ltb room 259 ≡ false → requestOf s ≡ request.Read q
+    → outcomeIn b (frame s room) ≡ Done
+unfolding askedOutcome
+accepted b s room q some large asks = frame-whole b s room some large ∙ ap (askedOutcome (b .pack) s) asks
 
-not-five : (xs ys : List (Refusal × Bool)) → others xs ≡ true → five (first ys) ≡ false → five (first (xs ++ ys)) ≡ false
-unfolding first
-not-five [] ys o e = e
-not-five ((refusal, true) ∷ xs) ys o e =
-    not-true (eqb (refusalNumber refusal) 5) (and-eq-true-iff (not (eqb (refusalNumber refusal) 5)) (others xs) .0 o .0)
-not-five ((refusal, false) ∷ xs) ys o e =
-    not-five xs ys (and-eq-true-iff (not (eqb (refusalNumber refusal) 5)) (others xs) .0 o .1) e
-
-module _ (b : Board) (some : usable b ≡ true) where
-  asked : (s : List ℕ) (q : Request) → requestOf s ≡ q → isRefused q ≡ false → five (first (askedRows (b .pack) (b .hire) s q)) ≡ false
-  unfolding isRefused first
-  asked s (request.Refused refusal) e f = absurd (false≢true (sym f))
-  asked s request.ClearEvents e f = refl
-  asked s request.ClearStatistics e f = refl
-  asked s (request.Write form n) e f = not-five (askedRows (b .pack) (b .hire) s (request.Write form n)) [] refl refl
-  asked s (request.Read q) e f =
-      rw (le-ltb 254 (payloadOf (b .pack) (b .hire) q) (payload-most (b .pack) (b .hire) s q e some)) refl
-
-  answered : (s : List ℕ) → five (first (frameRows b s)) ≡ false
-  unfolding first
-  answered s = ap five (first-append (requestRows s) (askedRows (b .pack) (b .hire) s (requestOf s))) ∙ go (first (requestRows s)) refl
-    where
-      go : (o : Outcome) → first (requestRows s) ≡ o
-          → five (andThen o (first (askedRows (b .pack) (b .hire) s (requestOf s)))) ≡ false
-      go Done e = asked s (requestOf s) refl (ap isRefused (accepted s e) ∙ not-refused s e)
-      go (Refused refusal) e = ap five (sym e) ∙ not-five (requestRows s) [] refl refl
-
-  of-rows : (c : Call) → five (first (shape c .rows b)) ≡ false
-  unfolding shape loadRows first
-  of-rows (tick cells r) = not-five (shape (tick cells r) .rows b) [] refl refl
-  of-rows (frame s room) = not-five ((NoRoom, ltb room 259) ∷ []) (frameRows b s) refl (answered s)
-  of-rows handover = refl
-  of-rows (offer bytes) = not-five (shape (offer bytes) .rows b) [] refl refl
-  of-rows (fetch room) = not-five ((NoRoom, ltb room 259) ∷ (NoFrameHeld, not (holds b)) ∷ []) (frameRows b (heldIn b)) refl (answered (heldIn b))
-  of-rows (save n) = not-five (shape (save n) .rows b) [] refl refl
-  of-rows (load area) = not-five (shape (load area) .rows b) [] refl refl
-
--- of any call, on any board
-pub never-5 : (b : Board) (c : Call) → eqb (numberOf (outcomeIn b c)) 5 ≡ false
-never-5 b c = go (usable b) refl
-  where
-    go : (t : Bool) → usable b ≡ t → five (outcomeIn b c) ≡ false
-    go true e = ap five (by-rows b (shape c) e) ∙ of-rows b e c
-    go false e = ap five (none-21 b (shape c) e)
-
--- and so on each that calls reach from a start
-pub number-5 : (cells perKm : ℕ) (cs : List Call) (c : Call) → outcomeIn (reached board cells perKm cs) c ≡ Refused TooLong → ⊥
-number-5 cells perKm cs c e = false≢true (sym (never-5 (reached board cells perKm cs) c) ∙ ap five e)
+-- and 0x1C shows all of its cells
+pub all-cells : (b : Board) → usable b ≡ true → cellsOf (b .pack) ≡ b .pack .cells
+all-cells b some = let both = and-eq-true-iff (leb 4 (b .pack .cells)) (leb (b .pack .cells) 16) .0 some in omega (arith, leb-true, both)
 
 -- ---- the most that each command carries
 
