@@ -6,9 +6,7 @@
 #include <stddef.h>
 #include <stdint.h>
 
-/* "Numbers the caller gets", 6 and 7 of W-201, 31 to 33 of W-205, 61 and 62 of W-211. Number 5 (a reply payload above
-   254 bytes) has no place here: a register block lies in one range, so its payload is 200 bytes at most, and 62 events
-   make 252, as a list of 63 registers does. */
+/* "Numbers the caller gets", 6 and 7 of W-201, 31 to 33 of W-205, 61 and 62 of W-211. */
 enum number {
     DONE = 0,
     ROOM_TOO_SMALL = 1,

@@ -1,41 +1,39 @@
 -- A query is answered as the definition says: what is sent for it, word by word, are the bytes of its reply; and every reply has room
 -- in 259 bytes. Assumes nothing.
-use mathlib.Core.Bool.{Bool, true, false, cond, false≢true}
+use mathlib.Core.Bool.{Bool, true, false, cond}
 use mathlib.Core.Path.{_≡_, refl, ap, ap₂, _∙_, sym}
 use mathlib.Core.List.{List, [], _∷_, _++_, append-assoc}
-use Prim.Native.Nat.{ℕ, zero, suc, _+_, _*_, _/_, _%_, _≤_, _<_}
+use Prim.Native.Nat.{ℕ, zero, suc, _+_, _*_, _/_, _%_, _≤_}
 use native.Mathlib.Nat.{zero-add}
 use native.Mathlib.Omega.{arith}
 use lib.ListN.{length, take, length-append}
 use lib.Dec.{eqb}
-use borrow.Author.Tests.{lt-ltb, le-ltb, ltb-false}
 use Rattle.numbers.specs.Numbers.{le16, le32, Wrote, halfAt}
 use Rattle.refusals.specs.declared.Left.{Left}
 use Rattle.refusals.specs.declared.Left.the-variants.{Zeros, Nack}
 use Rattle.refusals.specs.declared.Outcome.{Outcome}
 use Rattle.refusals.specs.declared.Outcome.the-variants.{Done, Refused}
-use Rattle.refusals.specs.declared.Refusal.the-variants.{TooLong}
 use Rattle.refusals.specs.Refusals.{leftBy}
 use Rattle.refusals.proofs.Rows.{refused-not}
 use Rattle.events.specs.Events.{newCount, keptCount, keptOf, newOf, eventLongs}
 use Rattle.settings.specs.Settings as settings
 use Rattle.writes.specs.declared.Form.{Form}
 use Rattle.writes.specs.declared.Form.the-variants as form
-use Rattle.writes.specs.Writes.{pairsOf}
 use Rattle.requests.specs.declared.Query.{Query}
 use Rattle.requests.specs.declared.Query.the-variants.{Registers, Listed, Bare, NewEvents, AllEvents, Temperatures, Cells, SettingsOf}
 use Rattle.requests.specs.declared.Request.{Request}
 use Rattle.requests.specs.declared.Request.the-variants as request
-use Rattle.requests.specs.Requests.{addressAt, commandOf, hasLength, highFirst, wordCount}
-use Rattle.replies.specs.Replies.{word16, words, sealed, nackOf, ackOf, Filled, Lengthened, lengthByte}
+use Rattle.requests.specs.Requests.{addressAt, requestOf, commandOf, hasLength, highFirst, wordCount}
+use Rattle.replies.specs.Replies.{word16, words, sealed, ackOf, Filled, Lengthened, lengthByte}
 use Rattle.numbers.proofs.Writing.{join-at, of-32}
 use Rattle.replies.proofs.Writing.{reply, sealed-length, words-alike, words-length, two-bytes, length-words}
 use Rattle.pack.specs.declared.Pack.{Pack}
 use Rattle.hire.specs.declared.Hire.{Hire}
 use Rattle.answers.specs.Registers.{valueAt}
-use Rattle.answers.specs.Answers.{withRegister, bodyBy, bodyOf, payloadOf, tooLong, takenReply, acceptedReply, replyBytes, leftReply}
-use Rattle.answers.specs.Answers.{replyBy, writeOutcome, askedOutcome, askedReply}
+use Rattle.answers.specs.Answers.{withRegister, bodyBy, bodyOf, payloadOf, cellsOf, takenReply, acceptedReply, replyBytes, leftReply}
+use Rattle.answers.specs.Answers.{replyBy, askedOutcome, askedReply}
 use Rattle.answers.specs.Making.{countOf, listedWord, wordOf, replyOf}
+use Rattle.answers.proofs.Payloads.{payload-most}
 
 -- ---- words in a row
 
@@ -134,12 +132,9 @@ payload p h Temperatures = refl
 payload p h Cells = refl
 payload p h (SettingsOf kind n) = refl
 
--- more than 127 words are more than 254 bytes
-pub long : (p : Pack) (h : Hire) (q : Query) {n : ℕ} → n ≡ countOf p h q → 127 < n → tooLong p h q ≡ true
-long p h q {n} e m = rw (payload p h q, ← e) (lt-ltb 254 (2 * n) (omega arith))
-
-pub short : (p : Pack) (h : Hire) (q : Query) {n : ℕ} → n ≡ countOf p h q → n ≤ 127 → tooLong p h q ≡ false
-short p h q {n} e m = rw (payload p h q, ← e) (le-ltb 254 (2 * n) (omega arith))
+-- so no reply to a query has more than 127
+pub few-words : (p : Pack) (h : Hire) (s : List ℕ) (q : Query) {n : ℕ} → n ≡ countOf p h q → requestOf s ≡ request.Read q → n ≤ 127
+few-words p h s q e asks = rw e (omega (arith, payload p h q, payload-most p h s q asks))
 
 -- ---- a reply has at most 259 bytes
 
@@ -154,7 +149,7 @@ body-length p h s NewEvents =
 body-length p h s AllEvents =
     omega (arith, words-length 4 le32 (eventLongs (p .clock .seconds) (keptOf (h .events))) 0 (1 + keptCount (h .events)) (λ w. refl))
 body-length p h s Temperatures = refl
-body-length p h s Cells = omega (arith, words-length 2 le16 (valueAt p h) 0 (p .cells) (λ w. refl))
+body-length p h s Cells = omega (arith, words-length 2 le16 (valueAt p h) 0 (cellsOf p) (λ w. refl))
 body-length p h s (SettingsOf kind n) =
     omega (arith, words-length 2 le16 (settings.registerOf (settings.ofKind (p .settings) kind)) 300 n (λ w. refl))
 
@@ -180,7 +175,7 @@ refused-short (Nack error) s = sealed-short _ (omega arith)
 
 module _ (p : Pack) (h : Hire) (s : List ℕ) where
   -- an accepted request's has as many bytes as its kind says
-  accepted-bytes : (q : Request) → askedOutcome p h s q ≡ Done → length (acceptedReply p h s q) ≡ replyBytes p h q
+  accepted-bytes : (q : Request) → askedOutcome p s q ≡ Done → length (acceptedReply p h s q) ≡ replyBytes p h q
   unfolding askedOutcome acceptedReply replyBytes
   accepted-bytes (request.Refused refusal) e = absurd (refused-not refusal e)
   accepted-bytes request.ClearEvents e = sealed-length (ackOf 0x02)
@@ -193,27 +188,27 @@ module _ (p : Pack) (h : Hire) (s : List ℕ) where
       add true n = omega arith
       add false n = omega arith
 
-  bytes-short : (q : Request) → askedOutcome p h s q ≡ Done → replyBytes p h q ≤ 259
-  unfolding askedOutcome replyBytes
-  bytes-short (request.Refused refusal) e = omega arith
-  bytes-short request.ClearEvents e = omega arith
-  bytes-short request.ClearStatistics e = omega arith
-  bytes-short (request.Write f n) e = omega (arith, taken-short p h f n)
-  bytes-short (request.Read q) e = go (tooLong p h q) refl e
+  -- AA, CMD, PL, 254 bytes of data and CRC
+  pub most-259 : replyBytes p h (requestOf s) ≤ 259
+  unfolding replyBytes
+  most-259 = go (requestOf s) refl
     where
-      go : (t : Bool) → tooLong p h q ≡ t → cond t (Refused TooLong) Done ≡ Done → cond (hasLength q) 5 4 + payloadOf p h q ≤ 259
-      go true l e = absurd (refused-not TooLong e)
-      go false l e = let m = ltb-false 254 (payloadOf p h q) l in omega (arith, within-three (hasLength q), two-more (hasLength q))
+      go : (q : Request) → requestOf s ≡ q → replyBytes p h q ≤ 259
+      go (request.Refused refusal) e = omega arith
+      go request.ClearEvents e = omega arith
+      go request.ClearStatistics e = omega arith
+      go (request.Write f n) e = omega (arith, taken-short p h f n)
+      go (request.Read q) e = omega (arith, within-three (hasLength q), two-more (hasLength q), payload-most p h s q e)
 
   -- so every reply has room
-  pub reply-length : (q : Request) → length (askedReply p h s q) ≤ 259
+  pub reply-length : length (askedReply p h s (requestOf s)) ≤ 259
   unfolding replyBy
-  reply-length q = go (askedOutcome p h s q) refl
+  reply-length = go (askedOutcome p s (requestOf s)) refl
     where
-      go : (o : Outcome) → askedOutcome p h s q ≡ o → length (replyBy o s (acceptedReply p h s q)) ≤ 259
-      go Done e = omega (arith, accepted-bytes q e, bytes-short q e)
+      go : (o : Outcome) → askedOutcome p s (requestOf s) ≡ o → length (replyBy o s (acceptedReply p h s (requestOf s))) ≤ 259
+      go Done e = omega (arith, accepted-bytes (requestOf s) e, most-259)
       go (Refused refusal) e = refused-short (leftBy refusal) s
 
-  pub reply-bytes : (q : Request) → askedOutcome p h s q ≡ Done → length (askedReply p h s q) ≡ replyBytes p h q
+  pub reply-bytes : (q : Request) → askedOutcome p s q ≡ Done → length (askedReply p h s q) ≡ replyBytes p h q
   unfolding replyBy
   reply-bytes q e = ap (λ (o : Outcome). length (replyBy o s (acceptedReply p h s q))) e ∙ accepted-bytes q e

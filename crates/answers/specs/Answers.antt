@@ -3,8 +3,8 @@
 use mathlib.Core.Bool.{Bool, true, cond}
 use mathlib.Core.List.{List, [], _∷_, _++_}
 use mathlib.Core.Path.{_≡_}
-use Prim.Native.Nat.{ℕ, _+_, _*_}
-use lib.Dec.{eqb, ltb}
+use Prim.Native.Nat.{ℕ, _+_, _*_, min}
+use lib.Dec.{eqb}
 use lib.ListN.{getD}
 use Rattle.numbers.specs.Numbers.{le16, be16, le32, be16At}
 use Rattle.refusals.specs.declared.Left.{Left}
@@ -12,8 +12,7 @@ use Rattle.refusals.specs.declared.Left.the-variants.{Zeros, Nack}
 use Rattle.refusals.specs.declared.Outcome.{Outcome}
 use Rattle.refusals.specs.declared.Outcome.the-variants.{Done, Refused}
 use Rattle.refusals.specs.declared.Refusal.{Refusal}
-use Rattle.refusals.specs.declared.Refusal.the-variants.{TooLong}
-use Rattle.refusals.specs.Refusals.{leftBy, first}
+use Rattle.refusals.specs.Refusals.{leftBy}
 use Rattle.events.specs.Events.{keptCount, newCount, keptOf, newOf, eventLongs}
 use Rattle.settings.specs.declared.Settings.{Settings}
 use Rattle.settings.specs.Settings as settings
@@ -26,13 +25,18 @@ use Rattle.requests.specs.declared.Query.{Query}
 use Rattle.requests.specs.declared.Query.the-variants.{Registers, Listed, Bare, NewEvents, AllEvents, Temperatures, Cells, SettingsOf}
 use Rattle.requests.specs.declared.Request.{Request}
 use Rattle.requests.specs.declared.Request.the-variants as request
-use Rattle.requests.specs.Requests.{addressAt, hasLength}
+use Rattle.requests.specs.Requests.{addressAt, requestOf, hasLength}
 use Rattle.replies.specs.Replies.{word16, words, sealed, nackOf, ackOf, Filled}
 use Rattle.pack.specs.declared.Pack.{Pack}
 use Rattle.hire.specs.declared.Hire.{Hire}
+use Rattle.answers.specs.declared.Told.{Told}
 use Rattle.answers.specs.Registers.{valueAt}
 
 -- ---- the reply to a query, before its CRC
+
+-- a board has at most 16 cells
+abbrev pub cellsOf : Pack → ℕ
+cellsOf p = min 16 (p .cells)
 
 -- of a list, an address and its register
 abbrev pub withRegister : (ℕ → ℕ) → ℕ → List ℕ
@@ -56,7 +60,7 @@ module _ (p : Pack) (h : Hire) where
       ∷ le16 (signed.bitsOf (h .sensed .readings .internal))
       ++ le16 (signed.bitsOf (h .sensed .readings .external1))
       ++ le16 (signed.bitsOf (h .sensed .readings .external2))
-  bodyBy value s Cells = 0xAA ∷ 0x1C ∷ 2 * (p .cells) ∷ words le16 value 0 (p .cells)
+  bodyBy value s Cells = 0xAA ∷ 0x1C ∷ 2 * cellsOf p ∷ words le16 value 0 (cellsOf p)
   bodyBy value s (SettingsOf kind n) = 0xAA ∷ 0x1D ∷ 2 * n ∷ words le16 (settings.registerOf (settings.ofKind (p .settings) kind)) 300 n
 
   abbrev pub bodyOf : List ℕ → Query → List ℕ
@@ -70,12 +74,8 @@ module _ (p : Pack) (h : Hire) where
   payloadOf NewEvents = 4 + 4 * newCount (h .events)
   payloadOf AllEvents = 4 + 4 * keptCount (h .events)
   payloadOf Temperatures = 6
-  payloadOf Cells = 2 * (p .cells)
+  payloadOf Cells = 2 * cellsOf p
   payloadOf (SettingsOf kind n) = 2 * n
-
-  -- reply payload above 254 bytes
-  abbrev pub tooLong : Query → Bool
-  tooLong q = ltb 254 (payloadOf q)
 
 -- ---- the whole reply before its zeros
 
@@ -119,14 +119,13 @@ replyBy (Refused refusal) s accepted = refusedReply refusal s
 
 -- ---- what a request comes to
 
-module _ (p : Pack) (h : Hire) where
-  -- its own refusal; a setting against its rule, where the pack's settings stand; a reply that is too long
-  abbrev pub askedRows : List ℕ → Request → List (Refusal × Bool)
-  askedRows s (request.Refused refusal) = (refusal, true) ∷ []
-  askedRows s request.ClearEvents = []
-  askedRows s request.ClearStatistics = []
-  askedRows s (request.Write f n) = settings.writeRows (draftedOf (settings.draftOf (p .settings)) (pairsOf f s n) .values)
-  askedRows s (request.Read q) = (TooLong, tooLong p h q) ∷ []
+-- its own refusal; a setting against its rule, where the pack's settings stand. A query is always accepted
+abbrev pub askedRows : Pack → List ℕ → Request → List (Refusal × Bool)
+askedRows p s (request.Refused refusal) = (refusal, true) ∷ []
+askedRows p s request.ClearEvents = []
+askedRows p s request.ClearStatistics = []
+askedRows p s (request.Write f n) = settings.writeRows (draftedOf (settings.draftOf (p .settings)) (pairsOf f s n) .values)
+askedRows p s (request.Read q) = []
 
 -- ---- the same by parts, as the functions have them
 
@@ -136,25 +135,23 @@ writeOutcome st ps = settings.outcomeOf (draftedOf (settings.draftOf st) ps)
 abbrev pub writeReply : Settings → List ℕ → Form → ℕ → List ℕ
 writeReply st s f n = replyBy (writeOutcome st (pairsOf f s n)) s (sealed (takenReply f s n))
 
-module _ (p : Pack) (h : Hire) where
-  abbrev pub queryOutcome : Query → Outcome
-  queryOutcome q = cond (tooLong p h q) (Refused TooLong) Done
+-- what a request comes to, and its reply
+unfoldable pub askedOutcome : Pack → List ℕ → Request → Outcome
+askedOutcome p s (request.Refused refusal) = Refused refusal
+askedOutcome p s request.ClearEvents = Done
+askedOutcome p s request.ClearStatistics = Done
+askedOutcome p s (request.Write f n) = writeOutcome (p .settings) (pairsOf f s n)
+askedOutcome p s (request.Read q) = Done
 
-  abbrev pub queryReply : List ℕ → Query → List ℕ
-  queryReply s q = replyBy (queryOutcome q) s (sealed (bodyOf p h s q))
-
-  -- what a request comes to, and its reply
-  unfoldable pub askedOutcome : List ℕ → Request → Outcome
-  askedOutcome s (request.Refused refusal) = Refused refusal
-  askedOutcome s request.ClearEvents = Done
-  askedOutcome s request.ClearStatistics = Done
-  askedOutcome s (request.Write f n) = writeOutcome (p .settings) (pairsOf f s n)
-  askedOutcome s (request.Read q) = queryOutcome q
-
-  abbrev pub askedReply : List ℕ → Request → List ℕ
-  askedReply s q = replyBy (askedOutcome s q) s (acceptedReply p h s q)
+abbrev pub askedReply : Pack → Hire → List ℕ → Request → List ℕ
+askedReply p h s q = replyBy (askedOutcome p s q) s (acceptedReply p h s q)
 
 -- a reply into a buffer of any length, and what the request comes to
 pub record Replied (outcome : Outcome) (reply before : List ℕ) (r : Outcome) (after : List ℕ) : Type 0 where
   pub outcome-is : r ≡ outcome
   pub reply-is : Filled before reply after
+
+-- the same of the request that the bytes s make, and what they ask
+pub record Answers (p : Pack) (h : Hire) (s before : List ℕ) (r : Told) (after : List ℕ) : Type 0 where
+  pub told-is : r ≡ record { asked = requestOf s; outcome = askedOutcome p s (requestOf s) }
+  pub reply-is : Filled before (askedReply p h s (requestOf s)) after

@@ -16,11 +16,12 @@ use Rattle.pack.specs.declared.Pack.{Pack}
 use Rattle.hire.specs.declared.Hire.{Hire}
 use Rattle.hire.specs.Registers.{temperatureAt}
 use Rattle.answers.specs.Registers.{valueAt}
+use Rattle.answers.specs.Answers.{cellsOf}
 
 module _ (p : Pack) (h : Hire) where
   -- how many words
   abbrev pub countOf : Query → ℕ
-  countOf q = wordCount q (newCount (h .events)) (keptCount (h .events)) (p .cells)
+  countOf q = wordCount q (newCount (h .events)) (keptCount (h .events)) (cellsOf p)
 
   -- the i-th word of a list: each address, and its register
   unfoldable pub listedWord : List ℕ → ℕ → ℕ

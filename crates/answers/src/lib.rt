@@ -3,12 +3,12 @@ mod registers;
 
 ghost use mathlib.Core.List.{_∷_, _++_};
 ghost use mathlib.Core.Path.{_≡_};
-ghost use Prim.Native.Nat.{_≤_};
-ghost use Rattle.requests.specs.Requests.{highFirst};
+ghost use Prim.Native.Nat.{_≤_, min};
+ghost use Rattle.requests.specs.Requests.{requestOf, highFirst};
 ghost use Rattle.numbers.specs.Numbers.{be16, Wrote};
 ghost use Rattle.replies.specs.Replies.{word16, words, sealed, ackOf, Filled};
 ghost use Rattle.writes.specs.Writes.{pairsOf};
-ghost use Rattle.answers.specs.Answers.{takenReply, refusedReply, writeReply, queryReply, writeOutcome, queryOutcome, askedOutcome, askedReply, Replied};
+ghost use Rattle.answers.specs.Answers.{bodyOf, takenReply, refusedReply, writeReply, writeOutcome, askedOutcome, askedReply, Replied, Answers};
 ghost use Rattle.answers.specs.Making.{listedWord, wordOf, replyOf};
 use crate::registers::value;
 use hire::Hire;
@@ -28,9 +28,25 @@ pub enum Shown {
     Nothing,
 }
 
-// The reply to a request, and what it comes to.
-pub fn answer(pack: Pack, hire: Hire, request: &[u8], asked: Request, reply: &mut [u8]) -> Outcome
-    ensures { λ r. ⌜ Replied (askedOutcome pack hire (now (request .entry)) asked) (askedReply pack hire (now (request .entry)) asked) (now (reply .entry)) r (now (reply .exit)) ⌝ }
+// What a request asks, and what it comes to.
+pub struct Told {
+    pub asked: Request,
+    pub outcome: Outcome,
+}
+
+// The reply to a request, of any bytes.
+pub fn answer(pack: Pack, hire: Hire, request: &[u8], reply: &mut [u8]) -> Told
+    ensures { λ r. ⌜ Answers pack hire (now (request .entry)) (now (reply .entry)) r (now (reply .exit)) ⌝ }
+{
+    let asked = requests::parsed(request);
+    let outcome = reply_to(pack, hire, request, asked, reply);
+    Told { asked, outcome }
+}
+
+// The reply to what those bytes ask.
+fn reply_to(pack: Pack, hire: Hire, request: &[u8], asked: Request, reply: &mut [u8]) -> Outcome
+    requires { ⌜ asked ≡ requestOf (now request) ⌝ }
+    ensures { λ r. ⌜ Replied (askedOutcome pack (now (request .entry)) asked) (askedReply pack hire (now (request .entry)) asked) (now (reply .entry)) r (now (reply .exit)) ⌝ }
 {
     match asked {
         Request::Refused(refusal) => refuse(refusal, request, reply),
@@ -98,17 +114,23 @@ fn put_address(address: u16, count: u8, reply: &mut [u8])
     replies::seal(reply, 6);
 }
 
-// A query is answered by its words.
+// A query is answered by its words; no request asks for more than 127.
 fn read(pack: Pack, hire: Hire, request: &[u8], query: Query, reply: &mut [u8]) -> Outcome
-    ensures { λ r. ⌜ Replied (queryOutcome pack hire query) (queryReply pack hire (now (request .entry)) query) (now (reply .entry)) r (now (reply .exit)) ⌝ }
+    requires { ⌜ requestOf (now request) ≡ Request.Read query ⌝ }
+    ensures { λ r. ⌜ Replied Outcome.Done (sealed (bodyOf pack hire (now (request .entry)) query)) (now (reply .entry)) r (now (reply .exit)) ⌝ }
 {
     let events = hire.events;
-    let count = query.word_count(events.new_count(), events.kept_count(), pack.cells);
-    if 127 < count {
-        return refuse(Refusal::TooLong, request, reply);
-    }
+    let cells = at_most_16(pack.cells);
+    let count = query.word_count(events.new_count(), events.kept_count(), cells);
     send(pack, hire, request, query, count, reply);
     Outcome::Done
+}
+
+// As many cells as a board can have.
+fn at_most_16(cells: u8) -> u8
+    ensures { λ r. ⌜ r ≡ min 16 cells ⌝ }
+{
+    if cells < 16 { cells } else { 16 }
 }
 
 fn send(pack: Pack, hire: Hire, request: &[u8], query: Query, count: u16, reply: &mut [u8])

@@ -1,7 +1,7 @@
 -- What a request comes to by its rows, what it leaves of the buffer, and so what a call promises that answers one. Assumes nothing.
-use mathlib.Core.Path.{_≡_, refl, sym, ap, ap₂, _∙_, subst}
-use mathlib.Core.Bool.{Bool, true, false, _&&_, not, cond, false≢true}
-use mathlib.Core.List.{List, [], _∷_, _++_}
+use mathlib.Core.Path.{_≡_, refl, sym, ap, ap₂, _∙_}
+use mathlib.Core.Bool.{Bool, true, false, _&&_, false≢true}
+use mathlib.Core.List.{List, [], _∷_}
 use Prim.Native.Nat.{ℕ, _-_, _≤_}
 use native.Mathlib.Nat.{sub-zero}
 use native.Mathlib.Omega.{arith}
@@ -10,52 +10,48 @@ use lib.Dec.{eqb, ltb}
 use lib.ListN.{length, drop, replicate, length-append, length-replicate}
 use lib.Seq.{drop-append-seam}
 use Rattle.refusals.specs.declared.Left.{Left}
-use Rattle.refusals.specs.declared.Left.the-variants.{Zeros, Nack}
+use Rattle.refusals.specs.declared.Left.the-variants.{Zeros}
 use Rattle.refusals.specs.declared.Refusal.{Refusal}
-use Rattle.refusals.specs.declared.Refusal.the-variants.{NoRoom, Damaged, UnknownCommand, WrongLength, WrongField}
-use Rattle.refusals.specs.declared.Refusal.the-variants.{OutOfRange, OutOfOrder, TooLong, NoFrameHeld, NoBoard}
+use Rattle.refusals.specs.declared.Refusal.the-variants.{Damaged, UnknownCommand, WrongLength, WrongField}
+use Rattle.refusals.specs.declared.Refusal.the-variants.{OutOfRange, OutOfOrder}
 use Rattle.refusals.specs.declared.Outcome.{Outcome}
 use Rattle.refusals.specs.declared.Outcome.the-variants.{Done, Refused}
 use Rattle.refusals.specs.Refusals.{refusalNumber, leftBy, numberOf, isDone, first}
-use Rattle.refusals.proofs.Rows.{refused-not, done-is, andThen, first-append}
+use Rattle.refusals.proofs.Rows.{refused-not, andThen, first-append}
 use Rattle.settings.specs.Settings as settings
 use Rattle.requests.specs.declared.Request.{Request}
 use Rattle.requests.specs.declared.Request.the-variants as request
-use Rattle.requests.specs.Requests.{foreign, damaged, unknownCommand, wrongLength, wrongField, requestRows, askedOf, requestOf}
+use Rattle.requests.specs.Requests.{foreign, damaged, unknownCommand, wrongLength, wrongField, requestRows, requestOf}
 use Rattle.requests.proofs.Outcomes.{isRefused, accepted, refused, not-refused}
 use Rattle.replies.specs.Replies.{padded, Filled}
 use Rattle.replies.proofs.Writing.{whole}
 use Rattle.pack.specs.declared.Pack.{Pack}
-use Rattle.hire.specs.declared.Hire.{Hire}
 use Rattle.answers.specs.Answers.{acceptedReply, replyBytes, leftReply, refusedReply, replyBy, askedRows, askedOutcome, askedReply}
 use Rattle.answers.proofs.Made.{reply-length, reply-bytes}
 use Rattle.board.specs.declared.Board.{Board}
 use Rattle.board.specs.declared.Answer.{Answer}
-use Rattle.board.specs.State.{usable}
-use Rattle.board.specs.Line.{holds, letGo}
-use Rattle.board.specs.Changes.{changedBy}
-use Rattle.board.specs.Calls.{Call, Lent, replyLent, Shape, shape, frameRows, lost, letsGo, boardBy, seenOf, leftOf, outcomeIn}
-use Rattle.board.specs.Promises.{roomRows, readyRows, requestOutcome, requestAnswer, Leaves, Answered}
+use Rattle.board.specs.Calls.{Call, Lent, replyLent, shape, frameRows, lost, letsGo, boardBy, seenOf, leftOf, outcomeIn}
+use Rattle.board.specs.Promises.{roomRows, readyRows, requestOutcome, Leaves}
 use Rattle.board.proofs.Shape as shapes
 
 -- ---- a request comes to the first of its rows that applies
 
-asked-rows : (p : Pack) (h : Hire) (s : List ℕ) (q : Request) → askedOutcome p h s q ≡ first (askedRows p h s q)
+asked-rows : (p : Pack) (s : List ℕ) (q : Request) → askedOutcome p s q ≡ first (askedRows p s q)
 unfolding askedOutcome first settings.judgedOf
-asked-rows p h s (request.Refused refusal) = refl
-asked-rows p h s request.ClearEvents = refl
-asked-rows p h s request.ClearStatistics = refl
-asked-rows p h s (request.Write f n) = refl
-asked-rows p h s (request.Read q) = refl
+asked-rows p s (request.Refused refusal) = refl
+asked-rows p s request.ClearEvents = refl
+asked-rows p s request.ClearStatistics = refl
+asked-rows p s (request.Write f n) = refl
+asked-rows p s (request.Read q) = refl
 
 pub by-table : (b : Board) (s : List ℕ) → requestOutcome b s ≡ first (frameRows b s)
 unfolding first
 by-table b s =
-    asked-rows (b .pack) (b .hire) s (requestOf s) ∙ go (first (requestRows s)) refl
-    ∙ sym (first-append (requestRows s) (askedRows (b .pack) (b .hire) s (requestOf s)))
+    asked-rows (b .pack) s (requestOf s) ∙ go (first (requestRows s)) refl
+    ∙ sym (first-append (requestRows s) (askedRows (b .pack) s (requestOf s)))
   where
     rest : Request → Outcome
-    rest q = first (askedRows (b .pack) (b .hire) s q)
+    rest q = first (askedRows (b .pack) s q)
 
     go : (o : Outcome) → first (requestRows s) ≡ o → rest (requestOf s) ≡ andThen o (rest (requestOf s))
     go Done e = refl
@@ -72,14 +68,14 @@ first-each P [] each done = done refl
 first-each P ((refusal, true) ∷ rest) each done = each .0
 first-each P ((refusal, false) ∷ rest) each done = first-each P rest (each .1) done
 
-asked-each : (P : Outcome → Type 0) → ((register : ℕ) → P (Refused (OutOfRange register))) → P (Refused OutOfOrder) → P (Refused TooLong)
-    → (p : Pack) (h : Hire) (s : List ℕ) (q : Request) → isRefused q ≡ false → Each P (askedRows p h s q)
+asked-each : (P : Outcome → Type 0) → ((register : ℕ) → P (Refused (OutOfRange register))) → P (Refused OutOfOrder)
+    → (p : Pack) (s : List ℕ) (q : Request) → isRefused q ≡ false → Each P (askedRows p s q)
 unfolding isRefused
-asked-each P range order long p h s (request.Refused refusal) e = absurd (false≢true (sym e))
-asked-each P range order long p h s request.ClearEvents e = tt
-asked-each P range order long p h s request.ClearStatistics e = tt
-asked-each P range order long p h s (request.Write form n) e = (range _, (order, tt))
-asked-each P range order long p h s (request.Read q) e = (long, tt)
+asked-each P range order p s (request.Refused refusal) e = absurd (false≢true (sym e))
+asked-each P range order p s request.ClearEvents e = tt
+asked-each P range order p s request.ClearStatistics e = tt
+asked-each P range order p s (request.Write form n) e = (range _, (order, tt))
+asked-each P range order p s (request.Read q) e = tt
 
 -- a refusal of the frame itself, whichever it is, lets a held frame go
 abbrev Lost : Outcome → Type 0
@@ -90,7 +86,7 @@ request-lost b s h =
     ap lost by ∙ go (first (requestRows s)) refl (λ e. h (by ∙ e))
   where
     rest : Request → List (Refusal × Bool)
-    rest q = askedRows (b .pack) (b .hire) s q
+    rest q = askedRows (b .pack) s q
 
     by : requestOutcome b s ≡ andThen (first (requestRows s)) (first (rest (requestOf s)))
     by = by-table b s ∙ first-append (requestRows s) (rest (requestOf s))
@@ -99,7 +95,7 @@ request-lost b s h =
         → lost (andThen o (first (rest (requestOf s)))) ≡ true
     go Done e h =
         first-each Lost (rest (requestOf s))
-        (asked-each Lost (λ register. refl) refl refl (b .pack) (b .hire) s (requestOf s)
+        (asked-each Lost (λ register. refl) refl (b .pack) s (requestOf s)
         (ap isRefused (accepted s e) ∙ not-refused s e))
         (λ z. absurd (h z))
     go (Refused refusal) e h =
@@ -123,12 +119,12 @@ not-foreign b s ours =
     ap (λ (o : Outcome). eqb (numberOf o) 2) (first-append (requestRows s) (rest (requestOf s))) ∙ go (first (requestRows s)) refl
   where
     rest : Request → List (Refusal × Bool)
-    rest q = askedRows (b .pack) (b .hire) s q
+    rest q = askedRows (b .pack) s q
 
     go : (o : Outcome) → first (requestRows s) ≡ o → Not2 (andThen o (first (rest (requestOf s))))
     go Done e =
         first-each Not2 (rest (requestOf s))
-        (asked-each Not2 (λ register. refl) refl refl (b .pack) (b .hire) s (requestOf s)
+        (asked-each Not2 (λ register. refl) refl (b .pack) s (requestOf s)
         (ap isRefused (accepted s e) ∙ not-refused s e))
         (λ z. refl)
     go (Refused refusal) e = ap (λ (o : Outcome). eqb (numberOf o) 2) (sym e) ∙ bytes s ours
@@ -207,7 +203,7 @@ module _ (b : Board) (s : List ℕ) (room : ℕ) where
   left-whole e =
       let large = ltb-false room 259 e in (
         padded-length room (askedReply (b .pack) (b .hire) s (requestOf s))
-            (omega (arith, reply-length (b .pack) (b .hire) s (requestOf s))),
+            (omega (arith, reply-length (b .pack) (b .hire) s)),
         names (requestOutcome b s),
         λ z. zeros-after room size (askedReply (b .pack) (b .hire) s (requestOf s)) (reply-bytes (b .pack) (b .hire) s (requestOf s) z),
       )
@@ -242,6 +238,6 @@ module _ {b : Board} {c : Call} {s before after : List ℕ} {r : Answer} (early 
       record {
         answer = p ∙ shapes.answered b c (requestOutcome b s) x is f;
         lent =
-            whole q (omega (arith, reply-length (b .pack) (b .hire) s (requestOf s)))
+            whole q (omega (arith, reply-length (b .pack) (b .hire) s))
             ∙ ap₂ (λ (x : Lent) (o : Outcome). leftOf x o before) (sym lent-is) is;
       }

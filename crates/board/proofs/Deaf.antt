@@ -1,13 +1,12 @@
 -- A tick, a frame, a handover, a save and a load neither look at what is held of the raw line nor touch it (a handover drops it): so calls
 -- that are none of the line's are answered alike, whatever is held; and an offer changes nothing else, so once what was heard is let go no
 -- offer shows. Assumes nothing.
-use mathlib.Core.Path.{_≡_, refl, sym, ap, ap₂, _∙_}
+use mathlib.Core.Path.{_≡_, refl, sym, ap, _∙_}
 use mathlib.Core.Bool.{Bool, true, false, not, cond, false≢true}
-use mathlib.Core.List.{List, [], _∷_, _++_}
+use mathlib.Core.List.{List, [], _∷_}
 use Prim.Native.Nat.{ℕ}
-use lib.Dec.{ltb}
 use Rattle.refusals.specs.declared.Refusal.{Refusal}
-use Rattle.refusals.specs.declared.Refusal.the-variants.{NoRoom, NoBoard, TooLong}
+use Rattle.refusals.specs.declared.Refusal.the-variants.{NoBoard}
 use Rattle.refusals.specs.declared.Outcome.{Outcome}
 use Rattle.refusals.specs.Refusals.{isDone, first}
 use Rattle.hire.specs.Hire.{newHire}
@@ -18,10 +17,10 @@ use Rattle.requests.specs.declared.Query.{Query}
 use Rattle.requests.specs.declared.Query.the-variants.{Registers, Listed, Bare, NewEvents, AllEvents, Temperatures, Cells, SettingsOf}
 use Rattle.requests.specs.declared.Request.{Request}
 use Rattle.requests.specs.declared.Request.the-variants as request
-use Rattle.requests.specs.Requests.{requestRows, requestOf}
+use Rattle.requests.specs.Requests.{requestOf}
 use Rattle.replies.specs.Replies.{sealed}
 use Rattle.answers.specs.Registers.{shownAt, valueAt}
-use Rattle.answers.specs.Answers.{bodyBy, bodyOf, payloadOf, acceptedReply, askedRows}
+use Rattle.answers.specs.Answers.{bodyBy, bodyOf, acceptedReply}
 use Rattle.board.specs.declared.Board.{Board}
 use Rattle.board.specs.State.{usable, withReceiver}
 use Rattle.board.specs.Handover.{handedOver}
@@ -48,24 +47,6 @@ module _ (b : Board) (r : Receiver) where
   bodies s Temperatures = refl
   bodies s Cells = refl
   bodies s (SettingsOf kind n) = refl
-
-  payloads : (q : Query) → payloadOf (b .pack) (withReceiver b r .hire) q ≡ payloadOf (b .pack) (b .hire) q
-  unfolding payloadOf
-  payloads (Registers command at n) = refl
-  payloads (Listed n) = refl
-  payloads (Bare command at n) = refl
-  payloads NewEvents = refl
-  payloads AllEvents = refl
-  payloads Temperatures = refl
-  payloads Cells = refl
-  payloads (SettingsOf kind n) = refl
-
-  pub request-rows : (s : List ℕ) (q : Request) → askedRows (b .pack) (withReceiver b r .hire) s q ≡ askedRows (b .pack) (b .hire) s q
-  request-rows s (request.Refused refusal) = refl
-  request-rows s request.ClearEvents = refl
-  request-rows s request.ClearStatistics = refl
-  request-rows s (request.Write f n) = refl
-  request-rows s (request.Read q) = ap (λ (n : ℕ). (TooLong, ltb 254 n) ∷ []) (payloads q)
 
   pub request-reply : (s : List ℕ) (q : Request)
       → acceptedReply (b .pack) (withReceiver b r .hire) s q ≡ acceptedReply (b .pack) (b .hire) s q
@@ -101,7 +82,7 @@ module _ (b : Board) (r : Receiver) where
   same (frame s room) e =
       record {
         fetches = refl;
-        rows = ap (λ (rows : List (Refusal × Bool)). (NoRoom, ltb room 259) ∷ (requestRows s ++ rows)) (request-rows s (requestOf s));
+        rows = refl;
         lent = ap (replyLent s room) (request-reply s (requestOf s));
         carries = refl;
         held = r;

@@ -78,7 +78,7 @@ writing rows area =
 
 -- the rows of a request: those of its bytes, and of what it asks
 abbrev pub frameRows : Board → List ℕ → List (Refusal × Bool)
-frameRows b s = requestRows s ++ askedRows (b .pack) (b .hire) s (requestOf s)
+frameRows b s = requestRows s ++ askedRows (b .pack) s (requestOf s)
 
 -- a call that answers a request: 1, reply buffer under 259 bytes; then its own rows and the request's. What is done after what the request
 -- changes, and what that adds to the history

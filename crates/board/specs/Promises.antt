@@ -36,7 +36,7 @@ readyRows b room = (NoBoard, not (usable b)) ∷ (NoRoom, ltb room 259) ∷ (NoF
 
 -- what is given back to a request that there is room for
 abbrev pub requestOutcome : Board → List ℕ → Outcome
-requestOutcome b s = askedOutcome (b .pack) (b .hire) s (requestOf s)
+requestOutcome b s = askedOutcome (b .pack) s (requestOf s)
 
 abbrev pub requestAnswer : Board → List ℕ → Answer
 requestAnswer b s = record { outcome = requestOutcome b s; board = cond (isDone (requestOutcome b s)) (changedBy b s (requestOf s)) b }

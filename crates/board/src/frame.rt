@@ -47,8 +47,9 @@ impl Board {
     pub(crate) fn answered(self, request: &[u8], reply: &mut [u8]) -> Answer
         ensures { λ r. ⌜ Answered self (now (request .entry)) (now (reply .entry)) r (now (reply .exit)) ⌝ }
     {
-        let asked = requests::parsed(request);
-        let outcome = answers::answer(self.pack, self.hire, request, asked, reply);
+        let told = answers::answer(self.pack, self.hire, request, reply);
+        let outcome = told.outcome;
+        let asked = told.asked;
         let is_taken = outcome.is_done();
         if is_taken {
             return self.changed(request, asked).with_outcome(outcome);

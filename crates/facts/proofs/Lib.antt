@@ -13,3 +13,4 @@ pub mod RawLine
 pub mod Streams
 pub mod SerialLine
 pub mod SavedEvents
+pub mod Payloads

@@ -13,7 +13,6 @@ use borrow.Author.Tests.{ltb-false}
 use lib.Dec.{ltb}
 use lib.ListN.{length, take, drop, replicate}
 use lib.Seq.{take-append-add}
-use Rattle.refusals.specs.declared.Refusal.{Refusal}
 use Rattle.refusals.specs.declared.Refusal.the-variants.{NoRoom, FrameHeld, NoFrameHeld}
 use Rattle.refusals.specs.declared.Outcome.{Outcome}
 use Rattle.refusals.specs.declared.Outcome.the-variants.{Done, Refused}
@@ -27,7 +26,7 @@ use Rattle.receiver.proofs.Cutting.{Good, whole-frames}
 use Rattle.receiver.proofs.Cutting as cutting
 use Rattle.requests.specs.declared.Request.{Request}
 use Rattle.requests.specs.declared.Request.the-variants as request
-use Rattle.requests.specs.Requests.{requestRows, requestOf}
+use Rattle.requests.specs.Requests.{requestOf}
 use Rattle.replies.specs.Replies.{padded}
 use Rattle.answers.specs.Answers.{acceptedReply, askedReply}
 use Rattle.answers.proofs.Made.{reply-length}
@@ -39,7 +38,7 @@ use Rattle.board.specs.Promises.{requestOutcome}
 use Rattle.board.specs.Calls.{frame, offer, fetch, replyLent, frameRows, shape, outcomeOf, lost, letsGo, boardBy, seenOf}
 use Rattle.board.specs.Calls.{outcomeIn, boardAfter, bufferAfter, carriedBy, step}
 use Rattle.board.proofs.Asked.{by-table, request-lost}
-use Rattle.board.proofs.Deaf.{request-rows, request-reply, request-changes}
+use Rattle.board.proofs.Deaf.{request-reply, request-changes}
 
 -- ---- the board at the end of a raw line
 
@@ -135,9 +134,7 @@ module _ (b : Board) (r : Receiver) (some : usable b ≡ true) (n : ℕ) (room :
 
   pub fetch-whole : outcomeIn (withReceiver b r) (fetch n) ≡ requestOutcome b (heldOf r)
   unfolding shape outcomeOf first
-  fetch-whole =
-      rw (some, room, held)
-      (ap (λ (rows : List (Refusal × Bool)). first (requestRows s ++ rows)) (request-rows b r s (requestOf s)) ∙ sym (by-table b s))
+  fetch-whole = rw (some, room, held) (sym (by-table b s))
 
   fetched-outcome : outcomeIn (withReceiver b r) (fetch n) ≡ outcomeIn b (frame (heldOf r) 259)
   fetched-outcome = fetch-whole ∙ sym (frame-whole b s 259 some refl)
@@ -158,7 +155,7 @@ module _ (b : Board) (r : Receiver) (some : usable b ≡ true) (n : ℕ) (room :
   unfolding shape seenOf
   fetched-reply =
       ap₂ (λ (l : List ℕ) (o : Outcome). take 259 (seenOf (replyLent s n l) o)) (request-reply b r s (requestOf s)) fetch-whole
-      ∙ fits n (askedReply (b .pack) (b .hire) s (requestOf s)) (reply-length (b .pack) (b .hire) s (requestOf s)) (ltb-false n 259 room)
+      ∙ fits n (askedReply (b .pack) (b .hire) s (requestOf s)) (reply-length (b .pack) (b .hire) s) (ltb-false n 259 room)
       ∙ ap (seenOf (replyLent s 259 (acceptedReply (b .pack) (b .hire) s (requestOf s)))) (sym (frame-whole b s 259 some refl))
 
   fetched-replies : isReply (outcomeIn (withReceiver b r) (fetch n)) ≡ true

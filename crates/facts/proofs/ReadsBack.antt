@@ -11,7 +11,7 @@ use mathlib.Core.List.{List, [], _∷_, _++_, map, reverse}
 use Prim.Native.Nat.{ℕ, zero, suc, _+_, _*_, _≤_, _<_}
 use native.Mathlib.Nat.{zero-add, mul-suc, mul-le-mul-left}
 use native.Mathlib.Omega.{arith}
-use borrow.Author.Tests.{eqb-true, eqb-false, le-leb, lt-leb}
+use borrow.Author.Tests.{eqb-true, eqb-false, leb-true, le-leb, lt-leb}
 use lib.Dec.{eqb}
 use lib.ListN.{length, take, drop, length-drop}
 use lib.Seq.{take-all, take-append-le, drop-append-le, drop-drop, drop-at}
@@ -34,7 +34,7 @@ use Rattle.writes.proofs.LastPut.{last-given}
 use Rattle.requests.specs.declared.Request.{Request}
 use Rattle.requests.specs.declared.Request.the-variants as request
 use Rattle.requests.specs.Requests.{requestOf, addressAt}
-use Rattle.requests.proofs.Sound.{inRange, readsInRange, settings-few, sound}
+use Rattle.requests.proofs.Sound.{counted, sound}
 use Rattle.replies.proofs.Writing.{words-alike, words-length, sealed-length}
 use Rattle.answers.specs.declared.Shown.{Shown}
 use Rattle.answers.specs.declared.Shown.the-variants.{Register}
@@ -305,8 +305,8 @@ module _ (cells perKm : ℕ) (cs : List Call) where
 
 -- 0x1D shows 100 settings at most
 few : (s : List ℕ) (n : ℕ) → requestOf s ≡ request.Read (SettingsOf Current n) → n ≤ 100
-unfolding readsInRange inRange
-few s n e = settings-few n (rw e at (sound s .in-range))
+unfolding counted
+few s n e = leb-true n 100 (rw e at (sound s .few))
 
 pub held : ReadsBack board
 unfolding bodyBy valueAt words

@@ -6,18 +6,17 @@
 -- the same outcomes, switches and bits, and the same replies but for the words of registers 40 and 41: only a reply rounds.
 -- Assumes nothing.
 use mathlib.Core.Path.{_≡_, refl, sym, ap, _∙_, subst⁻¹}
-use mathlib.Core.Bool.{true, _||_, cond, and-eq-true-iff}
+use mathlib.Core.Bool.{_||_, cond}
 use mathlib.Core.List.{List, [], _∷_, _++_, reverse, reverseAux}
-use Prim.Native.Nat.{ℕ, _+_, _*_, _-_, _/_, _≤_, _<_, max}
+use Prim.Native.Nat.{ℕ, _+_, _*_, _-_, _/_, _<_, max}
 use native.Mathlib.Omega.{arith}
-use borrow.Author.Tests.{ne-eqb, leb-true}
-use lib.Dec.{eqb, leb}
+use borrow.Author.Tests.{ne-eqb}
+use lib.Dec.{eqb}
 use lib.ListN.{length, take, drop}
 use Rattle.refusals.specs.declared.Refusal.the-variants.{NoBoard}
-use Rattle.refusals.specs.declared.Outcome.{Outcome}
 use Rattle.refusals.specs.declared.Outcome.the-variants.{Done, Refused}
 use Rattle.numbers.specs.Numbers.{le16}
-use Rattle.replies.specs.Replies.{word16, words, sealed, padded}
+use Rattle.replies.specs.Replies.{word16, words, sealed}
 use Rattle.requests.specs.declared.Query.{Query}
 use Rattle.requests.specs.declared.Query.the-variants.{Registers, Listed, Bare, NewEvents, AllEvents, Temperatures, Cells, SettingsOf}
 use Rattle.requests.specs.declared.Request.{Request}
@@ -36,9 +35,8 @@ use Rattle.hire.specs.Hire.{newHire}
 use Rattle.hire.specs.Registers.{readingRegister}
 use Rattle.answers.specs.declared.Shown.the-variants.{Register}
 use Rattle.answers.specs.Registers.{shownAt, valueAt}
-use Rattle.answers.specs.Answers.{withRegister, bodyBy, bodyOf, acceptedReply, replyBy}
+use Rattle.answers.specs.Answers.{cellsOf, withRegister, bodyBy, bodyOf, acceptedReply}
 use Rattle.board.specs.declared.Board.{Board}
-use Rattle.board.specs.State.{usable}
 use Rattle.board.specs.Tick.{tickedOf}
 use Rattle.board.specs.Line.{heldIn}
 use Rattle.board.specs.Calls.{Call, Seen, tick, frame, fetch, Lent, nothingLent, replyLent, areaLent, shape, boardBy, seenOf}
@@ -47,7 +45,6 @@ use Rattle.board.specs.Behaviour.{Behaviour, board, afterIn}
 use Rattle.board.specs.Account.{boardAt, deedsOf}
 use Rattle.board.specs.Demands.{told, reached}
 use Rattle.board.proofs.Opened.{steps}
-use Rattle.board.proofs.Shape.{is-done}
 use Rattle.board.proofs.Demands.Demand2.{account, as-told}
 use Rattle.facts.proofs.ReadsBack.{word-at, entry-at, words-same, listed-same}
 
@@ -227,10 +224,10 @@ other-entries b s n i l lowest highest =
 abbrev Neither : List ℕ → Query → Type 0
 Neither s q = (i : ℕ) → i < namedBy q → (registerIn s q i ≡ 40 → ⊥) × (registerIn s q i ≡ 41 → ⊥)
 
-same-body : (b : Board) (s : List ℕ) (q : Query) → b .pack .cells ≤ 16 → Neither s q
+same-body : (b : Board) (s : List ℕ) (q : Query) → Neither s q
     → bodyBy (b .pack) (b .hire) (valueDown b) s q ≡ bodyOf (b .pack) (b .hire) s q
 unfolding bodyBy namedBy registerIn
-same-body b s q few away = go q away
+same-body b s q away = go q away
   where
     same : (at : ℕ) → (at ≡ 40 → ⊥) × (at ≡ 41 → ⊥) → valueDown b at ≡ valueAt (b .pack) (b .hire) at
     same at other = same-value b at (other .0) (other .1)
@@ -249,38 +246,30 @@ same-body b s q few away = go q away
     go AllEvents away = refl
     go Temperatures away = refl
     go Cells away =
-        ap (λ (l : List ℕ). 0xAA ∷ 0x1C ∷ 2 * (b .pack .cells) ∷ l)
-        (words-same le16 (valueDown b) (valueAt (b .pack) (b .hire)) 0 (b .pack .cells)
+        ap (λ (l : List ℕ). 0xAA ∷ 0x1C ∷ 2 * cellsOf (b .pack) ∷ l)
+        (words-same le16 (valueDown b) (valueAt (b .pack) (b .hire)) 0 (cellsOf (b .pack))
         (λ i k. same (0 + i) ((λ e. omega arith), (λ e. omega arith))))
     go (SettingsOf kind n) away = refl
 
--- of a call that is done on a board that shows b
-same-reply-of : (b : Board) (s : List ℕ) → usable b ≡ true → ((q : Query) → requestOf s ≡ request.Read q → Neither s q)
+-- of an accepted request, on a board that shows b
+same-reply-of : (b : Board) (s : List ℕ) → ((q : Query) → requestOf s ≡ request.Read q → Neither s q)
     → requestDown b s (requestOf s) ≡ acceptedReply (b .pack) (b .hire) s (requestOf s)
 unfolding requestDown acceptedReply
-same-reply-of b s some away = same (requestOf s) refl
+same-reply-of b s away = same (requestOf s) refl
   where
     same : (q : Request) → requestOf s ≡ q → requestDown b s q ≡ acceptedReply (b .pack) (b .hire) s q
     same (request.Refused refusal) e = refl
     same request.ClearEvents e = refl
     same request.ClearStatistics e = refl
     same (request.Write f n) e = refl
-    same (request.Read q) e =
-        let few = leb-true (b .pack .cells) 16 (and-eq-true-iff (leb 4 (b .pack .cells)) (leb (b .pack .cells) 16) .0 some .1) in
-        ap sealed (same-body b s q few (away q e))
-
-same-buffer : (s : List ℕ) (room : ℕ) {ours down : List ℕ} (o : Outcome) → (o ≡ Done → down ≡ ours)
-    → seenOf (replyLent s room ours) o ≡ seenOf (replyLent s room down) o
-unfolding seenOf replyBy
-same-buffer s room Done e = ap (padded room) (sym (e refl))
-same-buffer s room (Refused refusal) e = refl
+    same (request.Read q) e = ap sealed (same-body b s q (away q e))
 
 pub same-reply : (cells perKm : ℕ) (cs : List Call) (s : List ℕ) (room : ℕ) → ((q : Query) → requestOf s ≡ request.Read q → Neither s q)
     → board .step (ours cells perKm cs) (frame s room) .1 .buffer ≡ roundingDown .step (theirs cells perKm cs) (frame s room) .1 .buffer
 unfolding shape bufferDown
 same-reply cells perKm cs s room away =
     let b = ours cells perKm cs in
-    same-buffer s room (outcomeIn b (frame s room)) (λ z. same-reply-of b s (is-done b (shape (frame s room)) z .0) away)
+    ap (λ (reply : List ℕ). seenOf (replyLent s room reply) (outcomeIn b (frame s room))) (sym (same-reply-of b s away))
     ∙ ap (λ (b : Board). bufferDown b (frame s room)) (same-state cells perKm cs)
 
 -- by a fetch too
@@ -290,7 +279,7 @@ pub same-fetched : (cells perKm : ℕ) (cs : List Call) (room : ℕ)
 unfolding shape bufferDown
 same-fetched cells perKm cs room away =
     let b = ours cells perKm cs in
-    same-buffer (heldIn b) room (outcomeIn b (fetch room)) (λ z. same-reply-of b (heldIn b) (is-done b (shape (fetch room)) z .0) away)
+    ap (λ (reply : List ℕ). seenOf (replyLent (heldIn b) room reply) (outcomeIn b (fetch room))) (sym (same-reply-of b (heldIn b) away))
     ∙ ap (λ (b : Board). bufferDown b (fetch room)) (same-state cells perKm cs)
 
 -- ---- 0 before the first tick and after a handover, as before

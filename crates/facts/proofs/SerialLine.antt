@@ -69,7 +69,7 @@ taken-within (b ∷ bs) r = go (isHeld r) (taken-within bs (withByte r b))
 -- a buffer that the board fills has as many bytes as there is room
 filled-whole : (b : Board) (s : List ℕ) → take 259 (padded 259 (replyOf b s .1)) ≡ padded 259 (replyOf b s .1)
 filled-whole b s =
-    let e = padded-length 259 (replyOf b s .1) (reply-length (b .pack) (b .hire) s (requestOf s)) in
+    let e = padded-length 259 (replyOf b s .1) (reply-length (b .pack) (b .hire) s) in
     take-all 259 (padded 259 (replyOf b s .1)) (omega (arith, e))
 
 abbrev heard : Board → List ℕ → Board

@@ -34,7 +34,8 @@ use Rattle.replies.proofs.Writing.{words-length}
 use Rattle.pack.specs.declared.Pack.{Pack}
 use Rattle.hire.specs.declared.Hire.{Hire}
 use Rattle.answers.specs.Registers.{valueAt}
-use Rattle.answers.specs.Answers.{withRegister, bodyBy, bodyOf, takenReply, acceptedReply, leftReply, replyBy, askedOutcome, askedReply}
+use Rattle.answers.specs.Answers.{cellsOf, withRegister, bodyBy, bodyOf, takenReply, acceptedReply, leftReply, replyBy}
+use Rattle.answers.specs.Answers.{askedOutcome, askedReply}
 use Rattle.answers.proofs.Made.{reply-length}
 use Rattle.port.specs.Port as port
 use Rattle.port.specs.Port.{lengthIn}
@@ -194,7 +195,7 @@ module _ (room : ℕ) (large : 259 ≤ room) where
     body NewEvents f l = counted 0x11 (4 + 4 * newCount (h .events)) _ (λ pl. refl) (longs (newOf (h .events)) (newCount (h .events))) l
     body AllEvents f l = counted 0x12 (4 + 4 * keptCount (h .events)) _ (λ pl. refl) (longs (keptOf (h .events)) (keptCount (h .events))) l
     body Temperatures f l = counted 0x1B 6 _ (λ pl. refl) refl l
-    body Cells f l = counted 0x1C (2 * (p .cells)) _ (λ pl. refl) (words-length 2 le16 (valueAt p h) 0 (p .cells) (λ w. refl)) l
+    body Cells f l = counted 0x1C (2 * cellsOf p) _ (λ pl. refl) (words-length 2 le16 (valueAt p h) 0 (cellsOf p) (λ w. refl)) l
     body (SettingsOf kind n) f l =
         counted 0x1D (2 * n) _ (λ pl. refl) (words-length 2 le16 (settings.registerOf (settings.ofKind (p .settings) kind)) 300 n
         (λ w. refl)) l
@@ -227,4 +228,4 @@ module _ (room : ℕ) (large : 259 ≤ room) where
 -- a frame's whole reply, and nothing after it
 pub exact : (p : Pack) (h : Hire) (s : List ℕ) (room : ℕ) → 259 ≤ room → Exact room (askedReply p h s (requestOf s))
 exact p h s room large =
-    every room large p h s (requestOf s) (λ pl. asked s pl .reads) (askedOutcome p h s (requestOf s)) (reply-length p h s (requestOf s))
+    every room large p h s (requestOf s) (λ pl. asked s pl .reads) (askedOutcome p s (requestOf s)) (reply-length p h s)

@@ -4,27 +4,23 @@
 use mathlib.Core.Path.{_≡_, refl}
 use mathlib.Core.Bool.{true, false}
 use mathlib.Core.List.{List, [], _∷_, map}
-use Prim.Native.Nat.{ℕ}
 use Rattle.refusals.specs.declared.Refusal.{Refusal}
 use Rattle.refusals.specs.declared.Refusal.the-variants.{NoRoom, Foreign, Damaged, UnknownCommand, WrongLength, WrongField}
-use Rattle.refusals.specs.declared.Refusal.the-variants.{OutOfRange}
-use Rattle.refusals.specs.declared.Refusal.the-variants.{OutOfOrder, TooLong, FrameHeld, NoFrameHeld, WrongCells, WrongCurrent}
-use Rattle.refusals.specs.declared.Refusal.the-variants.{NoInternal}
-use Rattle.refusals.specs.declared.Refusal.the-variants.{WrongPulses, NoBoard, WrongArea, UsedAfterUnused, NeverRecorded, BadRecord}
-use Rattle.refusals.specs.declared.Refusal.the-variants.{CutRecord}
-use Rattle.refusals.specs.declared.Left.{Left}
+use Rattle.refusals.specs.declared.Refusal.the-variants.{OutOfRange, OutOfOrder, FrameHeld, NoFrameHeld}
+use Rattle.refusals.specs.declared.Refusal.the-variants.{WrongCells, WrongCurrent, NoInternal, WrongPulses, NoBoard, WrongArea}
+use Rattle.refusals.specs.declared.Refusal.the-variants.{UsedAfterUnused, NeverRecorded, BadRecord, CutRecord}
 use Rattle.refusals.specs.declared.Left.the-variants.{Zeros, Nack}
 use Rattle.refusals.specs.Refusals.{refusalNumber, leftBy, numberOf, first}
 
 -- document 01's of a frame, and which of them a NACK answers
 frames : List Refusal
-frames = NoRoom ∷ Foreign ∷ Damaged ∷ UnknownCommand ∷ WrongLength ∷ WrongField ∷ OutOfRange 315 ∷ OutOfOrder ∷ TooLong ∷ []
+frames = NoRoom ∷ Foreign ∷ Damaged ∷ UnknownCommand ∷ WrongLength ∷ WrongField ∷ OutOfRange 315 ∷ OutOfOrder ∷ []
 
-frame-numbers : map refusalNumber frames ≡ 1 ∷ 2 ∷ 3 ∷ 4 ∷ 4 ∷ 4 ∷ 4 ∷ 4 ∷ 5 ∷ []
+frame-numbers : map refusalNumber frames ≡ 1 ∷ 2 ∷ 3 ∷ 4 ∷ 4 ∷ 4 ∷ 4 ∷ 4 ∷ []
 unfolding frames
 frame-numbers = refl
 
-frame-replies : map leftBy frames ≡ Zeros ∷ Zeros ∷ Nack 0x01 ∷ Nack 0x00 ∷ Nack 0x00 ∷ Nack 0x00 ∷ Nack 0x00 ∷ Nack 0x00 ∷ Nack 0x00 ∷ []
+frame-replies : map leftBy frames ≡ Zeros ∷ Zeros ∷ Nack 0x01 ∷ Nack 0x00 ∷ Nack 0x00 ∷ Nack 0x00 ∷ Nack 0x00 ∷ Nack 0x00 ∷ []
 unfolding frames
 frame-replies = refl
 

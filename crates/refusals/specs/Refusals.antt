@@ -6,7 +6,7 @@ use mathlib.Core.List.{List, [], _∷_}
 use Prim.Native.Nat.{ℕ}
 use Rattle.refusals.specs.declared.Refusal.{Refusal}
 use Rattle.refusals.specs.declared.Refusal.the-variants.{NoRoom, Foreign, Damaged, UnknownCommand, WrongLength, WrongField}
-use Rattle.refusals.specs.declared.Refusal.the-variants.{OutOfRange, OutOfOrder, TooLong, FrameHeld, NoFrameHeld}
+use Rattle.refusals.specs.declared.Refusal.the-variants.{OutOfRange, OutOfOrder, FrameHeld, NoFrameHeld}
 use Rattle.refusals.specs.declared.Refusal.the-variants.{WrongCells, WrongCurrent, NoInternal, WrongPulses, NoBoard, WrongArea}
 use Rattle.refusals.specs.declared.Refusal.the-variants.{UsedAfterUnused, NeverRecorded, BadRecord, CutRecord}
 use Rattle.refusals.specs.declared.Left.{Left}
@@ -14,7 +14,7 @@ use Rattle.refusals.specs.declared.Left.the-variants.{Zeros, Nack}
 use Rattle.refusals.specs.declared.Outcome.{Outcome}
 use Rattle.refusals.specs.declared.Outcome.the-variants.{Done, Refused}
 
--- document 01: frames, ticks, a start; then W-201, W-205 and W-211 of document 02
+-- document 01: frames, ticks, a start; then W-201, W-205 and W-211 of document 02. There is no number 5 since W-209
 abbrev pub refusalNumber : Refusal → ℕ
 refusalNumber NoRoom = 1
 refusalNumber Foreign = 2
@@ -24,7 +24,6 @@ refusalNumber WrongLength = 4
 refusalNumber WrongField = 4
 refusalNumber (OutOfRange register) = 4
 refusalNumber OutOfOrder = 4
-refusalNumber TooLong = 5
 refusalNumber FrameHeld = 6
 refusalNumber NoFrameHeld = 7
 refusalNumber WrongCells = 11
@@ -48,7 +47,6 @@ leftBy WrongLength = Nack 0x00
 leftBy WrongField = Nack 0x00
 leftBy (OutOfRange register) = Nack 0x00
 leftBy OutOfOrder = Nack 0x00
-leftBy TooLong = Nack 0x00
 leftBy FrameHeld = Zeros
 leftBy NoFrameHeld = Zeros
 leftBy WrongCells = Zeros

@@ -11,7 +11,6 @@ pub enum Refusal {
     WrongField, // an address, a count, an option or a padding byte against its rule
     OutOfRange(u16), // a setting outside its range: the lowest such register
     OutOfOrder, // the ordering rule among 316, 301 and 315
-    TooLong, // a reply payload above 254 bytes
     FrameHeld, // an offer while a frame is held
     NoFrameHeld, // a fetch with none held
     WrongCells, // not as many cells as the cell count
@@ -72,7 +71,6 @@ impl Refusal {
             Refusal::WrongField => 4,
             Refusal::OutOfRange(_) => 4,
             Refusal::OutOfOrder => 4,
-            Refusal::TooLong => 5,
             Refusal::FrameHeld => 6,
             Refusal::NoFrameHeld => 7,
             Refusal::WrongCells => 11,
@@ -100,7 +98,6 @@ impl Refusal {
             Refusal::WrongField => Left::Nack(0x00),
             Refusal::OutOfRange(_) => Left::Nack(0x00),
             Refusal::OutOfOrder => Left::Nack(0x00),
-            Refusal::TooLong => Left::Nack(0x00),
             Refusal::FrameHeld => Left::Zeros,
             Refusal::NoFrameHeld => Left::Zeros,
             Refusal::WrongCells => Left::Zeros,

@@ -182,7 +182,7 @@ module _ (cells perKm : ℕ) where
     before = boardAt cells perKm h
 
     -- a request that is accepted
-    asked-goes : (s : List ℕ) (q : Request) → askedOutcome (before .pack) (before .hire) s q ≡ Done
+    asked-goes : (s : List ℕ) (q : Request) → askedOutcome (before .pack) s q ≡ Done
         → changedBy before s q ≡ boardAt cells perKm (askedDeeds s q ++ h)
     unfolding changedBy askedDeeds askedOutcome boardAt
     asked-goes s (request.Refused refusal) e = absurd (refused-not refusal e)

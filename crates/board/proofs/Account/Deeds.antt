@@ -66,7 +66,7 @@ module _ (cells perKm : ℕ) where
     abbrev b : Board
     b = boardAt cells perKm h
 
-    asked-may : (s : List ℕ) (q : Request) → askedOutcome (b .pack) (b .hire) s q ≡ Done → AllMay h (askedDeeds s q)
+    asked-may : (s : List ℕ) (q : Request) → askedOutcome (b .pack) s q ≡ Done → AllMay h (askedDeeds s q)
     unfolding askedDeeds askedOutcome boardAt
     asked-may s (request.Refused refusal) e = tt
     asked-may s request.ClearEvents e = (tt, tt)

@@ -3,39 +3,28 @@ use mathlib.Core.Path.{_≡_, refl, sym, ap, _∙_}
 use mathlib.Core.Bool.{Bool, cond}
 use mathlib.Core.List.{List}
 use Prim.Native.Nat.{ℕ}
-use Rattle.refusals.specs.declared.Outcome.{Outcome}
 use Rattle.refusals.specs.Refusals.{isDone}
-use Rattle.requests.specs.declared.Request.{Request}
-use Rattle.requests.specs.Requests.{requestOf}
-use Rattle.answers.specs.Answers.{askedOutcome, askedReply, Replied}
+use Rattle.answers.specs.declared.Told.{Told}
+use Rattle.answers.specs.Answers as answers
 use Rattle.board.specs.declared.Answer.{Answer}
 use Rattle.board.specs.declared.Board.{Board}
 use Rattle.board.specs.Changes.{changedBy}
-use Rattle.board.specs.Promises.{requestOutcome, Answered}
+use Rattle.board.specs.Promises.{Answered}
 use borrow.Author.Needs.{needs}
 use Rattle.board.proofs.Board.answered.Statement.{statement}
 use Rattle.board.proofs.Board.answered.Tie as tie
 
-module _ (b : Board) (s : List ℕ) {before after : List ℕ} {q : Request} {o : Outcome} (asked : q ≡ requestOf s)
-    (told : Replied (askedOutcome (b .pack) (b .hire) s q) (askedReply (b .pack) (b .hire) s q) before o after) where
-  is : o ≡ requestOutcome b s
-  is = told .outcome-is ∙ ap (askedOutcome (b .pack) (b .hire) s) asked
-
-  all : {r : Answer} {x : Board} → x ≡ cond (isDone o) (changedBy b s q) b → r ≡ record { outcome = o; board = x }
-      → Answered b s before r after
-  all e p =
-      record {
-        answer = p ∙ (λ i. record { outcome = is i; board = (e ∙ (λ j. cond (isDone (is j)) (changedBy b s (asked j)) b)) i });
-        reply = rw asked at (told .reply-is);
-      }
-
+module _ (b : Board) (s : List ℕ) {before after : List ℕ} {t : Told} (told : answers.Answers (b .pack) (b .hire) s before t after) where
   -- by the test: what it changes, or the board as it was
-  by-test : {t : Bool} {r : Answer} {x : Board} → t ≡ isDone o → x ≡ cond t (changedBy b s q) b → r ≡ record { outcome = o; board = x }
-      → Answered b s before r after
-  by-test tested e p = all (e ∙ ap (λ (d : Bool). cond d (changedBy b s q) b) tested) p
-
-parsed-requires : tie.Need-parsed-requires
-parsed-requires c κs = search needs
+  by-test : {d : Bool} {r : Answer} {x : Board} → d ≡ isDone (t .outcome) → x ≡ cond d (changedBy b s (t .asked)) b
+      → r ≡ record { outcome = t .outcome; board = x } → Answered b s before r after
+  by-test tested e p =
+      let test = ap (λ (d : Bool). cond d (changedBy b s (t .asked)) b) tested in
+      let stands = ap (λ (t : Told). cond (isDone (t .outcome)) (changedBy b s (t .asked)) b) (told .told-is) in
+      record {
+        answer = p ∙ (λ i. record { outcome = told .told-is i .outcome; board = (e ∙ test ∙ stands) i });
+        reply = told .reply-is;
+      }
 
 answer-requires : tie.Need-answer-requires
 answer-requires c κs = search needs
@@ -56,8 +45,7 @@ returns : tie.Need-returns
 returns c =
     let then1 = c .before .before in
     let tested = then1 .before in
-    let answer = tested .before .before .before in
-    by-test _ _ (answer .before .before .parsed .ensures) (answer .answer .ensures) (sym (then1 .if1 .taken) ∙ tested .is-done .ensures)
+    by-test _ _ (tested .before .before .before .answer .ensures) (sym (then1 .if1 .taken) ∙ tested .is-done .ensures)
     (c .before .changed .ensures) (c .with-outcome .ensures)
 
 with-outcome-requires-2 : tie.Need-with-outcome-requires-2
@@ -70,15 +58,13 @@ returns-2 : tie.Need-returns-2
 returns-2 c =
     let else1 = c .before in
     let tested = else1 .before in
-    let answer = tested .before .before .before in
-    by-test _ _ (answer .before .before .parsed .ensures) (answer .answer .ensures) (sym (else1 .if1 .left) ∙ tested .is-done .ensures)
+    by-test _ _ (tested .before .before .before .answer .ensures) (sym (else1 .if1 .left) ∙ tested .is-done .ensures)
     refl (c .with-outcome2 .ensures)
 
 pub answered-spec : {M : Type 1} → statement M
 answered-spec =
     tie.close
     (tie.spec
-    parsed-requires
     answer-requires
     is-done-requires
     changed-requires
