@@ -6,13 +6,13 @@
 #include <stddef.h>
 #include <stdint.h>
 
-/* "Numbers the caller gets", 6 and 7 of W-201, 31 to 33 of W-205, 61 and 62 of W-211. */
+/* "Numbers the caller gets", 6 and 7 of W-201, 31 to 33 of W-205, 41 to 45 of W-208 in the place of 4, 61 and 62 of
+   W-211. */
 enum number {
     DONE = 0,
     ROOM_TOO_SMALL = 1,
     NOT_A_FRAME = 2,
     WRONG_CRC = 3,
-    AGAINST_A_RULE = 4,
     FRAME_HELD = 6,
     NO_FRAME_HELD = 7,
     WRONG_CELL_SLICE = 11,
@@ -23,6 +23,11 @@ enum number {
     WRONG_AREA = 31,
     USED_AFTER_UNUSED = 32,
     NEVER_RECORDED = 33,
+    UNKNOWN_COMMAND = 41,
+    WRONG_LENGTH = 42,
+    WRONG_FIELD = 43,
+    OUT_OF_RANGE = 44,
+    OUT_OF_ORDER = 45,
     BAD_RECORD = 61,
     CUT_RECORD = 62
 };
@@ -114,10 +119,11 @@ extern int board_fault;
 
 enum number board_start(struct board *board, uint8_t cells, uint16_t pulses_per_km);
 enum number board_tick(struct board *board, const struct readings *readings, const uint16_t *cell, size_t cells);
-enum number board_frame(struct board *board, const uint8_t *frame, size_t length, uint8_t *reply, size_t room);
+/* `which` takes the register of an OUT_OF_RANGE, and 0 otherwise. */
+enum number board_frame(struct board *board, const uint8_t *frame, size_t length, uint8_t *reply, size_t room, uint16_t *which);
 enum number board_handover(struct board *board);
 enum number board_offer(struct board *board, const uint8_t *bytes, size_t length, size_t *taken);
-enum number board_fetch(struct board *board, uint8_t *reply, size_t room);
+enum number board_fetch(struct board *board, uint8_t *reply, size_t room, uint16_t *which);
 enum number board_save(const struct board *board, uint8_t *area, size_t length);
 enum number board_load(struct board *board, const uint8_t *area, size_t length);
 

@@ -101,10 +101,15 @@ static char *say_decimal(char *at, unsigned number)
     return at;
 }
 
-/* "NUMBER SWITCHES NEED REAL". A board that is none is as at a start, so it says "-- 0000 0000". */
-static char *say_state(char *at, enum number number, const struct board *board)
+/* "NUMBER SWITCHES NEED REAL". A board that is none is as at a start, so it says "-- 0000 0000".
+   "From W-208 on a 44 is written with its register: `44:315`." */
+static char *say_answer(char *at, enum number number, uint16_t which, const struct board *board)
 {
     at = say_decimal(at, number);
+    if (number == OUT_OF_RANGE) {
+        *at++ = ':';
+        at = say_decimal(at, which);
+    }
     *at++ = ' ';
     *at++ = board->charge_switch ? 'c' : '-';
     *at++ = board->discharge_switch ? 'd' : '-';
@@ -112,6 +117,12 @@ static char *say_state(char *at, enum number number, const struct board *board)
     at = say_word(at, board->need);
     *at++ = ' ';
     return say_word(at, board->real);
+}
+
+/* Of a call that judges no setting. */
+static char *say_state(char *at, enum number number, const struct board *board)
+{
+    return say_answer(at, number, 0, board);
 }
 
 /* " BYTE.." */
@@ -180,8 +191,9 @@ static char *call_frame(struct board *board, struct words *words, char *answer)
     if (!take_number(words, 0, MOST_ROOM, &room) || !take_bytes(words, frame, &length))
         return NULL;
     memset(reply, 0x5A, (size_t)room);
-    const enum number number = board_frame(board, frame, length, reply, (size_t)room);
-    return say_buffer(say_state(answer, number, board), reply, (size_t)room);
+    uint16_t which;
+    const enum number number = board_frame(board, frame, length, reply, (size_t)room, &which);
+    return say_buffer(say_answer(answer, number, which, board), reply, (size_t)room);
 }
 
 /* "how many of its bytes were taken, 0 where it is refused" */
@@ -204,8 +216,9 @@ static char *call_fetch(struct board *board, struct words *words, char *answer)
     if (!take_number(words, 0, MOST_ROOM, &room) || another_word(words))
         return NULL;
     memset(reply, 0x5A, (size_t)room);
-    const enum number number = board_fetch(board, reply, (size_t)room);
-    return say_buffer(say_state(answer, number, board), reply, (size_t)room);
+    uint16_t which;
+    const enum number number = board_fetch(board, reply, (size_t)room, &which);
+    return say_buffer(say_answer(answer, number, which, board), reply, (size_t)room);
 }
 
 /* "every byte of the area, as it stands after the call" */

@@ -42,10 +42,11 @@ uint16_t crc_of(const uint8_t *bytes, size_t length)
 
 /* ---- Replies ---- */
 
-/* A reply as it is written into the lent buffer, which is all zeros before. */
+/* A reply as it is written into the lent buffer, which is all zeros before; and the register of a 44. */
 struct reply {
     uint8_t *bytes;
     size_t length;
+    uint16_t which;
 };
 
 static void put(struct reply *reply, uint8_t byte)
@@ -75,7 +76,7 @@ static void put_crc(struct reply *reply)
 /* "NACK: AA 00 CMD ERROR CRC." */
 static void put_nack(uint8_t *buffer, uint8_t command, uint8_t error)
 {
-    struct reply reply = {buffer, 0};
+    struct reply reply = {buffer, 0, 0};
     put(&reply, 0xAA);
     put(&reply, 0x00);
     put(&reply, command);
@@ -113,19 +114,20 @@ static unsigned low_first(const uint8_t *bytes)
     return bytes[0] | (unsigned)bytes[1] << 8;
 }
 
-/* ---- Commands: each is done, or refused with nothing changed ---- */
+/* ---- Commands: each is done, or refused with nothing changed ----
+   W-208: "43 a field outside its rule (address, count, option or padding)" */
 
 /* "0x02, 5 bytes: option 01 clears events, 02 clears statistics; others are number 4. Reply ACK." */
-static bool clear(struct board *board, uint8_t option, struct reply *reply)
+static enum number clear(struct board *board, uint8_t option, struct reply *reply)
 {
     if (option == 0x01)
         clear_events(board);
     else if (option == 0x02)
         clear_statistics(board);
     else
-        return false;
+        return WRONG_FIELD;
     put_ack(reply, 0x02);
-    return true;
+    return DONE;
 }
 
 /* "RL 1 to 127", and "A register block must lie in one range" */
@@ -135,29 +137,29 @@ static bool may_be_read(unsigned address, unsigned RL)
 }
 
 /* "0x03, 8 bytes: address high, low, 00, RL. RL 1 to 127. Reply AA 03 PL, then each register high byte first" */
-static bool read_block_high_first(const struct board *board, const uint8_t *frame, struct reply *reply)
+static enum number read_block_high_first(const struct board *board, const uint8_t *frame, struct reply *reply)
 {
     const unsigned address = high_first(frame + 2), RL = frame[5];
     if (frame[4] != 0x00 || !may_be_read(address, RL))
-        return false;
+        return WRONG_FIELD;
     put_head(reply, 0x03);
     put(reply, (uint8_t)(2 * RL));
     for (unsigned at = 0; at < RL; at++)
         put_high_first(reply, board_register(board, address + at));
-    return true;
+    return DONE;
 }
 
 /* Document 000, 1.1.2: AA 07 RL ADDR, and the reply AA 07 PL DATA. W-202: "by block 1 to 127". */
-static bool read_block(const struct board *board, const uint8_t *frame, struct reply *reply)
+static enum number read_block(const struct board *board, const uint8_t *frame, struct reply *reply)
 {
     const unsigned RL = frame[2], address = low_first(frame + 3);
     if (!may_be_read(address, RL))
-        return false;
+        return WRONG_FIELD;
     put_head(reply, 0x07);
     put(reply, (uint8_t)(2 * RL));
     for (unsigned at = 0; at < RL; at++)
         put_low_first(reply, board_register(board, address + at), 2);
-    return true;
+    return DONE;
 }
 
 /* "a read address outside 01's three ranges is number 4", "A read list may mix ranges" */
@@ -171,11 +173,11 @@ static bool each_may_be_read(const uint8_t *address, unsigned addresses)
 
 /* Document 000, 1.1.3: AA 09 PL, addresses, and the reply AA 09 PL, each address with its register.
    W-202: "Reads by list give 1 to 63 addresses". */
-static bool read_list(const struct board *board, const uint8_t *frame, struct reply *reply)
+static enum number read_list(const struct board *board, const uint8_t *frame, struct reply *reply)
 {
     const unsigned PL = frame[2], addresses = PL / 2;
     if (PL % 2 != 0 || addresses < 1 || addresses > 63 || !each_may_be_read(frame + 3, addresses))
-        return false;
+        return WRONG_FIELD;
     put_head(reply, 0x09);
     put(reply, (uint8_t)(4 * addresses));
     for (unsigned at = 0; at < addresses; at++) {
@@ -183,7 +185,7 @@ static bool read_list(const struct board *board, const uint8_t *frame, struct re
         put_low_first(reply, address, 2);
         put_low_first(reply, board_register(board, address), 2);
     }
-    return true;
+    return DONE;
 }
 
 static bool in_its_range(const struct settings *settings, unsigned number)
@@ -193,19 +195,22 @@ static bool in_its_range(const struct settings *settings, unsigned number)
 }
 
 /* "A write is taken whole or not at all, and only if afterwards 316 <= 301 < 315"
-   W-202: "only the final values are judged". A register that is not written is in its range already. */
-static bool take_settings(struct board *board, const struct settings *after)
+   W-202: "only the final values are judged". A register that is not written is in its range already.
+   W-208: "44 a setting outside its range, with its register number, the lowest such register, and 45 the ordering rule" */
+static enum number take_settings(struct board *board, const struct settings *after, struct reply *reply)
 {
     for (unsigned number = 300; number <= 399; number++) {
-        if (!in_its_range(after, number))
-            return false;
+        if (!in_its_range(after, number)) {
+            reply->which = (uint16_t)number;
+            return OUT_OF_RANGE;
+        }
         if (board_fault == 3)
             board->settings.of[number - 300] = after->of[number - 300];
     }
     if (read_setting(after, 316) > read_setting(after, 301) || read_setting(after, 301) >= read_setting(after, 315))
-        return false;
+        return OUT_OF_ORDER;
     board->settings = *after;
-    return true;
+    return DONE;
 }
 
 /* "addresses all in 300 to 399" */
@@ -216,63 +221,66 @@ static bool may_be_written(unsigned address, unsigned registers)
 
 /* "0x10, 9+2*RL bytes: address high, low, 00, RL, PL, registers high byte first. RL 1 to 100, PL = 2*RL, addresses
    all in 300 to 399. Reply AA 10 address high, low, 00, RL, CRC." */
-static bool write_block_high_first(struct board *board, const uint8_t *frame, struct reply *reply)
+static enum number write_block_high_first(struct board *board, const uint8_t *frame, struct reply *reply)
 {
     const unsigned address = high_first(frame + 2), RL = frame[5], PL = frame[6];
     if (frame[4] != 0x00 || RL < 1 || RL > 100 || PL != 2 * RL || !may_be_written(address, RL))
-        return false;
+        return WRONG_FIELD;
     struct settings after = board->settings;
     for (unsigned at = 0; at < RL; at++)
         after.of[address - 300 + at] = (uint16_t)high_first(frame + 7 + 2 * at);
-    if (!take_settings(board, &after))
-        return false;
+    const enum number number = take_settings(board, &after, reply);
+    if (number != DONE)
+        return number;
     put_head(reply, 0x10);
     put_high_first(reply, (uint16_t)address);
     put_high_first(reply, (uint16_t)RL);
-    return true;
+    return DONE;
 }
 
 /* Document 000, 1.1.4: AA 0B PL ADDR, registers, and the reply ACK. W-202: "by block 1 to 100 registers, all in 300
    to 399". The address is a word of the payload too. */
-static bool write_block(struct board *board, const uint8_t *frame, struct reply *reply)
+static enum number write_block(struct board *board, const uint8_t *frame, struct reply *reply)
 {
     const unsigned PL = frame[2], words = PL / 2;
     if (PL % 2 != 0 || words < 1 + 1 || words > 1 + 100)
-        return false;
+        return WRONG_FIELD;
     const unsigned address = low_first(frame + 3), registers = words - 1;
     if (!may_be_written(address, registers))
-        return false;
+        return WRONG_FIELD;
     struct settings after = board->settings;
     for (unsigned at = 0; at < registers; at++)
         after.of[address - 300 + at] = (uint16_t)low_first(frame + 5 + 2 * at);
-    if (!take_settings(board, &after))
-        return false;
+    const enum number number = take_settings(board, &after, reply);
+    if (number != DONE)
+        return number;
     put_ack(reply, 0x0B);
-    return true;
+    return DONE;
 }
 
 /* Document 000, 1.1.5: AA 0D PL, pairs of an address and its value, and the reply ACK. W-202: "Writes by list give 1 to
    50 pairs, ... all in 300 to 399", "A repeated address takes the later value". */
-static bool write_list(struct board *board, const uint8_t *frame, struct reply *reply)
+static enum number write_list(struct board *board, const uint8_t *frame, struct reply *reply)
 {
     const unsigned PL = frame[2], pairs = PL / 4;
     if (PL % 4 != 0 || pairs < 1 || pairs > 50)
-        return false;
+        return WRONG_FIELD;
     struct settings after = board->settings;
     for (unsigned at = 0; at < pairs; at++) {
         const unsigned address = low_first(frame + 3 + 4 * at);
         if (!may_be_written(address, 1))
-            return false;
+            return WRONG_FIELD;
         after.of[address - 300] = (uint16_t)low_first(frame + 5 + 4 * at);
     }
-    if (!take_settings(board, &after))
-        return false;
+    const enum number number = take_settings(board, &after, reply);
+    if (number != DONE)
+        return number;
     put_ack(reply, 0x0D);
-    return true;
+    return DONE;
 }
 
 /* "0x11 sends those not yet sent by an earlier 0x11; 0x12 sends all kept and marks nothing." Oldest first. */
-static bool send_events(struct board *board, uint8_t command, struct reply *reply)
+static enum number send_events(struct board *board, uint8_t command, struct reply *reply)
 {
     uint64_t first = oldest_kept(board);
     if (command == 0x11 && first < board->events_sent)
@@ -287,55 +295,55 @@ static bool send_events(struct board *board, uint8_t command, struct reply *repl
     }
     if (command == 0x11)
         board->events_sent = board->events_noted;
-    return true;
+    return DONE;
 }
 
 /* "reply AA CMD DATA CRC, no PL" */
-static bool send_data(uint8_t command, uint32_t data, unsigned bytes, struct reply *reply)
+static enum number send_data(uint8_t command, uint32_t data, unsigned bytes, struct reply *reply)
 {
     put_head(reply, command);
     put_low_first(reply, data, bytes);
-    return true;
+    return DONE;
 }
 
 /* "0x1B: PL 6, internal, external 1, external 2." */
-static bool send_temperatures(const struct board *board, struct reply *reply)
+static enum number send_temperatures(const struct board *board, struct reply *reply)
 {
     put_head(reply, 0x1B);
     put(reply, 6);
     put_low_first(reply, board_register(board, 48), 2);
     put_low_first(reply, board_register(board, 42), 2);
     put_low_first(reply, board_register(board, 43), 2);
-    return true;
+    return DONE;
 }
 
 /* "0x1C: PL = 2*cells, the cells in 0.1 mV." */
-static bool send_cells(const struct board *board, struct reply *reply)
+static enum number send_cells(const struct board *board, struct reply *reply)
 {
     put_head(reply, 0x1C);
     put(reply, (uint8_t)(2 * board->cells));
     for (unsigned at = 0; at < board->cells; at++)
         put_low_first(reply, board->cell[at], 2);
-    return true;
+    return DONE;
 }
 
 /* "0x1D, 7 bytes: option 1 to 4 (minimum, maximum, default, current), 00, RL 1 to 100; reply PL = 2*RL, registers
    from 300 on." */
-static bool send_settings(const struct board *board, const uint8_t *frame, struct reply *reply)
+static enum number send_settings(const struct board *board, const uint8_t *frame, struct reply *reply)
 {
     const struct settings *of_option[] = {&least_settings, &greatest_settings, &factory_settings, &board->settings};
     const unsigned option = frame[2], RL = frame[4];
     if (option < 1 || option > 4 || frame[3] != 0x00 || RL < 1 || RL > 100)
-        return false;
+        return WRONG_FIELD;
     put_head(reply, 0x1D);
     put(reply, (uint8_t)(2 * RL));
     for (unsigned at = 0; at < RL; at++)
         put_low_first(reply, of_option[option - 1]->of[at], 2);
-    return true;
+    return DONE;
 }
 
 /* W-201: "The length follows from the command, for 0x10 from its PL byte (9+PL, at most 264), and is 4 for an unknown
-   command." With PL = 2*RL this is document 01's 9+2*RL.
+   command."
    W-202: "W-201 learns the new frame lengths from those sections": 7, and 5+PL. */
 size_t length_of_request(const uint8_t *first, size_t bytes)
 {
@@ -354,11 +362,16 @@ size_t length_of_request(const uint8_t *first, size_t bytes)
     }
 }
 
-/* "The command byte decides the length and the meaning". False is number 4. */
-static bool obey(struct board *board, const uint8_t *frame, size_t length, struct reply *reply)
+/* "The command byte decides the length and the meaning": "0x10, 9+2*RL bytes", whatever its PL; the others as on the line. */
+static bool has_its_length(const uint8_t *frame, size_t length)
 {
-    if (length != length_of_request(frame, length))
-        return false;
+    if (frame[1] == 0x10)
+        return length >= 9 && length == 9 + 2 * (size_t)frame[5];
+    return length == length_of_request(frame, length);
+}
+
+static enum number obey(struct board *board, const uint8_t *frame, struct reply *reply)
+{
     switch (frame[1]) {
     case 0x02: return clear(board, frame[2], reply);
     case 0x03: return read_block_high_first(board, frame, reply);
@@ -377,16 +390,33 @@ static bool obey(struct board *board, const uint8_t *frame, size_t length, struc
     case 0x19: return send_data(0x19, pair(board, 32), 4, reply);
     case 0x1B: return send_temperatures(board, reply);
     case 0x1C: return send_cells(board, reply);
-    case 0x1D: return send_settings(board, frame, reply);
-    default: return false;
+    default: return send_settings(board, frame, reply);
     }
+}
+
+static bool is_known(uint8_t command)
+{
+    static const uint8_t known[] = {0x02, 0x03, 0x07, 0x09, 0x0B, 0x0D, 0x10, 0x11, 0x12,
+                                    0x14, 0x15, 0x16, 0x17, 0x18, 0x19, 0x1B, 0x1C, 0x1D};
+    return memchr(known, command, sizeof known) != NULL;
+}
+
+/* W-208: "41 unknown command, 42 wrong length", then what its fields and settings are */
+static enum number answer(struct board *board, const uint8_t *frame, size_t length, struct reply *reply)
+{
+    if (!is_known(frame[1]))
+        return UNKNOWN_COMMAND;
+    if (!has_its_length(frame, length))
+        return WRONG_LENGTH;
+    return obey(board, frame, reply);
 }
 
 /* ---- A frame: "The lowest number that applies is given", number 21 before all others ---- */
 
-enum number board_frame(struct board *board, const uint8_t *frame, size_t length, uint8_t *reply, size_t room)
+enum number board_frame(struct board *board, const uint8_t *frame, size_t length, uint8_t *reply, size_t room, uint16_t *which)
 {
     memset(reply, 0, room);
+    *which = 0;
     if (board->cells == 0)
         return NO_BOARD;
     if (room < LEAST_ROOM)
@@ -398,11 +428,12 @@ enum number board_frame(struct board *board, const uint8_t *frame, size_t length
         put_nack(reply, frame[1], 0x01);
         return WRONG_CRC;
     }
-    struct reply answer = {reply, 0};
-    if (!obey(board, frame, length, &answer)) {
+    struct reply said = {reply, 0, 0};
+    const enum number number = answer(board, frame, length, &said);
+    *which = said.which;
+    if (number != DONE)
         put_nack(reply, frame[1], 0x00);
-        return AGAINST_A_RULE;
-    }
-    put_crc(&answer);
-    return DONE;
+    else
+        put_crc(&said);
+    return number;
 }

@@ -46,6 +46,7 @@ bool serve_line(const char *recording)
     static struct board board;
     uint8_t bytes[4096], reply[LEAST_ROOM];
     size_t length, taken;
+    uint16_t which;
     if (recording == NULL)
         board_start(&board, 8, 2000);
     else if (!board_after(recording, &board))
@@ -53,7 +54,7 @@ bool serve_line(const char *recording)
     while ((length = fread(bytes, 1, sizeof bytes, stdin)) > 0)
         for (size_t at = 0; at < length; at += taken) {
             board_offer(&board, bytes + at, length - at, &taken);
-            if (board_fetch(&board, reply, sizeof reply) != NO_FRAME_HELD)
+            if (board_fetch(&board, reply, sizeof reply, &which) != NO_FRAME_HELD)
                 fwrite(reply, 1, length_of_reply(reply), stdout);
         }
     return true;

@@ -35,16 +35,17 @@ enum number board_offer(struct board *board, const uint8_t *bytes, size_t length
    "a fetch that answers with a NACK lets the held frame go and changes no other state"
    "1 on a fetch leaves the frame held; ... 7, a fetch with none held, the buffer zeroed, after 1"
    Reading: an unfinished frame is none held. */
-enum number board_fetch(struct board *board, uint8_t *reply, size_t room)
+enum number board_fetch(struct board *board, uint8_t *reply, size_t room, uint16_t *which)
 {
     memset(reply, 0, room);
+    *which = 0;
     if (board->cells == 0)
         return NO_BOARD;
     if (room < LEAST_ROOM)
         return ROOM_TOO_SMALL;
     if (!holds_frame(board))
         return NO_FRAME_HELD;
-    const enum number number = board_frame(board, board->receiver.bytes, board->receiver.length, reply, room);
+    const enum number number = board_frame(board, board->receiver.bytes, board->receiver.length, reply, room, which);
     board->receiver.length = 0;
     return number;
 }

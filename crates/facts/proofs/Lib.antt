@@ -14,3 +14,4 @@ pub mod Streams
 pub mod SerialLine
 pub mod SavedEvents
 pub mod Payloads
+pub mod Why

@@ -5,7 +5,7 @@ use mathlib.Core.Path.{_≡_, refl}
 use mathlib.Core.List.{List, [], _∷_, _++_, map}
 use Prim.Native.Nat.{ℕ}
 use lib.ListN.{length, take, drop, replicate}
-use Rattle.refusals.specs.declared.Refusal.the-variants.{NoRoom, Foreign, Damaged, WrongField, FrameHeld, NoFrameHeld}
+use Rattle.refusals.specs.declared.Refusal.the-variants.{NoRoom, Foreign, Damaged, WrongLength, FrameHeld, NoFrameHeld}
 use Rattle.refusals.specs.declared.Outcome.{Outcome}
 use Rattle.refusals.specs.declared.Outcome.the-variants.{Done, Refused}
 use Rattle.replies.specs.Replies.{sealed}
@@ -29,7 +29,7 @@ idle = 0xAA ∷ 0x18 ∷ 0x7F ∷ 0x1A ∷ []
 
 -- ---- the longest frame
 
--- 0x10 with a PL of 255 and a right CRC: 264 bytes, and against the rule that PL = 2·RL
+-- 0x10 with a PL of 255 and a right CRC: 264 bytes, and not the 9+2·RL that its RL asks for
 longest : List ℕ
 longest = sealed (0xAA ∷ 0x10 ∷ 0x01 ∷ 0x2C ∷ 0x00 ∷ 0x7F ∷ 0xFF ∷ replicate 255 0)
 
@@ -39,7 +39,7 @@ bytewise = map (λ b. offer (b ∷ [])) longest ++ (fetch 259 ∷ offer idle ∷
 
 the-longest :
     (length longest ≡ 264)
-    × (told bytewise ≡ replicate 264 (Done, 1) ++ ((Refused WrongField, 0) ∷ (Done, 4) ∷ (Done, 0) ∷ []))
+    × (told bytewise ≡ replicate 264 (Done, 1) ++ ((Refused WrongLength, 0) ∷ (Done, 4) ∷ (Done, 0) ∷ []))
     × (map (λ a. take 6 (a .buffer)) (drop 264 (answers bytewise))
     ≡ (0xAA ∷ 0x00 ∷ 0x10 ∷ 0x00 ∷ 0x2C ∷ 0x3C ∷ []) ∷ [] ∷ (0xAA ∷ 0x18 ∷ 0x97 ∷ 0x00 ∷ 0xCF ∷ 0xCB ∷ []) ∷ [])
 unfolding opened longest bytewise

@@ -1,5 +1,5 @@
 -- The demands shut out wrong boards. Demand 1: a board that accepts everything, one that leaves a byte of the last reply behind the next,
--- one that answers 4 where 3 is due, one that holds a frame still which it refused and one that keeps a byte of it, one that is done with a
+-- one that answers 43 where 3 is due, one that holds a frame still which it refused and one that keeps a byte of it, one that is done with a
 -- start of three cells. Demand 2:
 -- a board that NACKs everything, one that always replies idle, one that answers its first frame and repeats it, statistics with invented
 -- counts. Demand 3: a handover that does nothing, and one that shows the last rider's switches once more. Some of the first look the same
@@ -158,7 +158,7 @@ resting-fails h =
     let z : _≡_ {A = ℕ} 0 7 = ap (λ (answers : List Seen). numberOf (outcomeAt 1 answers)) e in
     omega arith
 
--- ---- 4 where 3 is due
+-- ---- 43 where 3 is due
 
 abbrev blurs : Board → Call → Board × Seen
 blurs b c =
@@ -171,7 +171,7 @@ blurring = record { State = Board; start = startBoard; started = board .started;
 pub blurring-fails : ¬ Demand1 blurring
 unfolding accounted
 blurring-fails h =
-    let z : _≡_ {A = ℕ} 4 3 = ap numberOf (h .outcomes 4 2000 [] (frame (0xAA ∷ 0x18 ∷ 0x7F ∷ 0x1B ∷ []) 259)) in omega arith
+    let z : _≡_ {A = ℕ} 43 3 = ap numberOf (h .outcomes 4 2000 [] (frame (0xAA ∷ 0x18 ∷ 0x7F ∷ 0x1B ∷ []) 259)) in omega arith
 
 -- ---- done with a start of three cells
 
@@ -192,7 +192,7 @@ nacking = record { State = Unit {0}; start = λ cells perKm. tt; started = λ ce
 pub nacking-fails : ¬ Demand2 nacking
 unfolding accounted
 nacking-fails h =
-    let z : _≡_ {A = ℕ} 4 0 = ap (λ (answers : List Seen). numberOf (outcomeAt 0 answers)) (h 4 2000 (status ∷ [])) in omega arith
+    let z : _≡_ {A = ℕ} 43 0 = ap (λ (answers : List Seen). numberOf (outcomeAt 0 answers)) (h 4 2000 (status ∷ [])) in omega arith
 
 -- but it shows nothing of an earlier rider
 pub nacking-forgets : Demand3 nacking

@@ -16,7 +16,7 @@ use Rattle.refusals.specs.Refusals.{refusalNumber, leftBy, numberOf, fir
 frames : List Refusal
 frames = NoRoom ∷ Foreign ∷ Damaged ∷ UnknownCommand ∷ WrongLength ∷ WrongField ∷ OutOfRange 315 ∷ OutOfOrder ∷ []
 
-frame-numbers : map refusalNumber frames ≡ 1 ∷ 2 ∷ 3 ∷ 4 ∷ 4 ∷ 4 ∷ 4 ∷ 4 ∷ []
+frame-numbers : map refusalNumber frames ≡ 1 ∷ 2 ∷ 3 ∷ 41 ∷ 42 ∷ 43 ∷ 44 ∷ 45 ∷ []
 unfolding frames
 frame-numbers = refl
 

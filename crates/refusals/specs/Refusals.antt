@@ -14,16 +14,17 @@ use Rattle.refusals.specs.declared.Left.the-variants.{Zeros, Nack}
 use Rattle.refusals.specs.declared.Outcome.{Outcome}
 use Rattle.refusals.specs.declared.Outcome.the-variants.{Done, Refused}
 
--- document 01: frames, ticks, a start; then W-201, W-205 and W-211 of document 02. There is no number 5 since W-209
+-- document 01: frames, ticks, a start; and W-201, W-205, W-208 (41 to 45 in the place of 4) and W-211 of document 02. There is no number 5
+-- since W-209
 abbrev pub refusalNumber : Refusal → ℕ
 refusalNumber NoRoom = 1
 refusalNumber Foreign = 2
 refusalNumber Damaged = 3
-refusalNumber UnknownCommand = 4
-refusalNumber WrongLength = 4
-refusalNumber WrongField = 4
-refusalNumber (OutOfRange register) = 4
-refusalNumber OutOfOrder = 4
+refusalNumber UnknownCommand = 41
+refusalNumber WrongLength = 42
+refusalNumber WrongField = 43
+refusalNumber (OutOfRange register) = 44
+refusalNumber OutOfOrder = 45
 refusalNumber FrameHeld = 6
 refusalNumber NoFrameHeld = 7
 refusalNumber WrongCells = 11
@@ -36,6 +37,29 @@ refusalNumber UsedAfterUnused = 32
 refusalNumber NeverRecorded = 33
 refusalNumber BadRecord = 61
 refusalNumber CutRecord = 62
+
+-- 44, a setting outside its range, with its register number; of every other 0
+abbrev pub refusalRegister : Refusal → ℕ
+refusalRegister NoRoom = 0
+refusalRegister Foreign = 0
+refusalRegister Damaged = 0
+refusalRegister UnknownCommand = 0
+refusalRegister WrongLength = 0
+refusalRegister WrongField = 0
+refusalRegister (OutOfRange register) = register
+refusalRegister OutOfOrder = 0
+refusalRegister FrameHeld = 0
+refusalRegister NoFrameHeld = 0
+refusalRegister WrongCells = 0
+refusalRegister WrongCurrent = 0
+refusalRegister NoInternal = 0
+refusalRegister WrongPulses = 0
+refusalRegister NoBoard = 0
+refusalRegister WrongArea = 0
+refusalRegister UsedAfterUnused = 0
+refusalRegister NeverRecorded = 0
+refusalRegister BadRecord = 0
+refusalRegister CutRecord = 0
 
 -- what a refusal leaves in a lent reply buffer: a NACK, error 0x01 or 0x00, or zeros alone
 abbrev pub leftBy : Refusal → Left
@@ -64,6 +88,10 @@ leftBy CutRecord = Zeros
 abbrev pub numberOf : Outcome → ℕ
 numberOf Done = 0
 numberOf (Refused refusal) = refusalNumber refusal
+
+abbrev pub registerOf : Outcome → ℕ
+registerOf Done = 0
+registerOf (Refused refusal) = refusalRegister refusal
 
 abbrev pub isDone : Outcome → Bool
 isDone Done = true

@@ -1,6 +1,6 @@
 // Why a call is refused, and the number that its caller gets: document 01's table, and what document 02 adds to it.
 ghost use mathlib.Core.Path.{_≡_};
-ghost use Rattle.refusals.specs.Refusals.{refusalNumber, leftBy, numberOf, isDone};
+ghost use Rattle.refusals.specs.Refusals.{refusalNumber, refusalRegister, leftBy, numberOf, registerOf, isDone};
 
 pub enum Refusal {
     NoRoom, // a reply buffer under 259 bytes
@@ -48,6 +48,16 @@ impl Outcome {
         }
     }
 
+    // The register of a 44; 0 of every other.
+    pub fn register(self) -> u16
+        ensures { λ r. ⌜ r ≡ registerOf self ⌝ }
+    {
+        match self {
+            Outcome::Done => 0,
+            Outcome::Refused(refusal) => refusal.register(),
+        }
+    }
+
     pub fn is_done(self) -> bool
         ensures { λ r. ⌜ r ≡ isDone self ⌝ }
     {
@@ -66,11 +76,11 @@ impl Refusal {
             Refusal::NoRoom => 1,
             Refusal::Foreign => 2,
             Refusal::Damaged => 3,
-            Refusal::UnknownCommand => 4,
-            Refusal::WrongLength => 4,
-            Refusal::WrongField => 4,
-            Refusal::OutOfRange(_) => 4,
-            Refusal::OutOfOrder => 4,
+            Refusal::UnknownCommand => 41,
+            Refusal::WrongLength => 42,
+            Refusal::WrongField => 43,
+            Refusal::OutOfRange(_) => 44,
+            Refusal::OutOfOrder => 45,
             Refusal::FrameHeld => 6,
             Refusal::NoFrameHeld => 7,
             Refusal::WrongCells => 11,
@@ -83,6 +93,15 @@ impl Refusal {
             Refusal::NeverRecorded => 33,
             Refusal::BadRecord => 61,
             Refusal::CutRecord => 62,
+        }
+    }
+
+    fn register(self) -> u16
+        ensures { λ r. ⌜ r ≡ refusalRegister self ⌝ }
+    {
+        match self {
+            Refusal::OutOfRange(register) => register,
+            _ => 0,
         }
     }
 

@@ -1,9 +1,9 @@
 -- What a request comes to, by the first of its rows that applies; and what holds of one that is accepted. By the rows in their order.
 -- Assumes nothing.
-use mathlib.Core.Path.{_≡_, refl, sym, ap}
-use mathlib.Core.Bool.{Bool, true, false, not, cond, false≢true}
+use mathlib.Core.Path.{_≡_, refl, sym, ap, _∙_, subst⁻¹}
+use mathlib.Core.Bool.{Bool, true, false, _&&_, not, cond, false≢true, and-eq-true-iff}
 use mathlib.Core.List.{List}
-use Prim.Native.Nat.{ℕ}
+use Prim.Native.Nat.{ℕ, _+_, _*_}
 use lib.Dec.{eqb}
 use lib.ListN.{length, getD}
 use borrow.Author.Tests.{eqb-true}
@@ -17,8 +17,10 @@ use Rattle.requests.specs.declared.Command.{Command}
 use Rattle.requests.specs.declared.Command.the-variants.{Clear, Block, QuickBlock, AskList, Write, Ask, AskSettings, Unknown}
 use Rattle.requests.specs.declared.Request.{Request}
 use Rattle.requests.specs.declared.Request.the-variants as request
-use Rattle.requests.specs.Requests.{isUnknown, expectedIn, lengthOf, fieldsOf, fieldsIn, askedOf, requestBy, requestOf}
-use Rattle.requests.specs.Requests.{foreign, damaged, unknownCommand, wrongLength, wrongField, requestRows}
+use Rattle.writes.specs.declared.Form.the-variants as form
+use Rattle.writes.specs.Writes.{between, countOf, wellCounted, allSettings, pairsOf}
+use Rattle.requests.specs.Requests.{isUnknown, expectedOf, expectedIn, lengthOf, fieldsOf, fieldsIn, askedOf, requestBy, requestOf}
+use Rattle.requests.specs.Requests.{foreign, damaged, unknownCommand, rightLength, wrongLength, wrongField, requestRows}
 
 -- one that no row refuses is what its fields ask; any other is refused with the first that applies
 pub accepted : (s : List ℕ) → first (requestRows s) ≡ Done → requestOf s ≡ askedOf s
@@ -42,6 +44,29 @@ holds : (t : Bool) → not t ≡ false → t ≡ true
 holds true e = refl
 holds false e = absurd (false≢true (sym e))
 
+-- 0x10's PL is 2·RL by its fields: so it is as long as the raw line takes it to be
+pub right-is-taken : (s : List ℕ) → fieldsIn s .good ≡ true → rightLength (getD s 1 0) (getD s 5 0) (expectedIn s .length) ≡ lengthOf s
+unfolding lengthOf expectedOf fieldsOf wellCounted countOf
+right-is-taken s = go (getD s 1 0) (eqb (getD s 1 0) 0x10) refl
+  where
+    pl : ℕ
+    pl = getD s 6 0
+
+    rl : ℕ
+    rl = getD s 5 0
+
+    twice : fieldsOf (Write form.Modbus) s .good ≡ true → pl ≡ 2 * rl
+    twice good =
+        let counted = and-eq-true-iff (wellCounted form.Modbus s rl) (allSettings (pairsOf form.Modbus s rl)) .0 good .0 in
+        eqb-true pl (2 * rl) (and-eq-true-iff (eqb (getD s 4 0) 0 && between 1 100 rl) (eqb pl (2 * rl)) .0 counted .1)
+
+    go : (c : ℕ) (t : Bool) → eqb c 0x10 ≡ t → fieldsOf (expectedOf c (getD s 2 0) pl .command) s .good ≡ true
+        → cond t (9 + 2 * rl) (expectedOf c (getD s 2 0) pl .length) ≡ expectedOf c (getD s 2 0) pl .length
+    go c true e =
+        subst⁻¹ (λ (c : ℕ). fieldsOf (expectedOf c (getD s 2 0) pl .command) s .good ≡ true → 9 + 2 * rl ≡ expectedOf c (getD s 2 0) pl .length)
+        (eqb-true c 0x10 e) (λ good. ap (λ (n : ℕ). 9 + n) (sym (twice good)))
+    go c false e = λ good. refl
+
 pub none-applies : (s : List ℕ) → first (requestRows s) ≡ Done → Accepted s
 unfolding lengthOf
 none-applies s e =
@@ -54,7 +79,7 @@ none-applies s e =
       ours = a .0;
       whole = b .0;
       known = c .0;
-      exact = eqb-true (length s) (expectedIn s .length) (holds (eqb (length s) (expectedIn s .length)) (d .0));
+      exact = eqb-true _ _ (holds _ (d .0)) ∙ right-is-taken s (holds (fieldsIn s .good) (f .0));
       kept = holds (fieldsIn s .good) (f .0);
     }
 

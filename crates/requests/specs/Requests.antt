@@ -29,8 +29,8 @@ use Rattle.requests.specs.declared.Request.the-variants as request
 abbrev pub expect : ℕ → Command → Expected
 expect n c = record { length = n; command = c }
 
--- the length that a command's request has, and what it asks. PL is a plain count of the bytes between itself and the CRC: the third byte of
--- 0x09, 0x0B and 0x0D, 5+PL; the seventh of 0x10, 9+PL (which its fields ask to be 2·RL). 4 for an unknown command
+-- the length that the raw line takes for a command's request, and what it asks. PL is a plain count of the bytes between itself and the CRC:
+-- the third byte of 0x09, 0x0B and 0x0D, 5+PL; the seventh of 0x10, 9+PL. 4 for an unknown command
 unfoldable pub expectedOf : ℕ → ℕ → ℕ → Expected
 expectedOf command third seventh =
     cond (eqb command 0x02) (expect 5 Clear)
@@ -69,7 +69,7 @@ fields good asks = record { good = good; asks = asks }
 abbrev pub inOneRange : ℕ → ℕ → Bool
 inOneRange at n = leb (at + n) 56 || leb 100 at && leb (at + n) 118 || leb 300 at && leb (at + n) 400
 
--- 0x02: option 01 clears events, 02 clears statistics; others are number 4
+-- 0x02: option 01 clears events, 02 clears statistics; others are against its rule
 abbrev pub clearedBy : ℕ → Request
 clearedBy option = cond (eqb option 1) request.ClearEvents request.ClearStatistics
 
@@ -141,11 +141,17 @@ isUnknown Unknown = true
 abbrev pub unknownCommand : List ℕ → Bool
 unknownCommand s = isUnknown (expectedIn s .command)
 
--- wrong length
-abbrev pub wrongLength : List ℕ → Bool
-wrongLength s = not (eqb (length s) (expectedIn s .length))
+-- wrong length: document 01's is 9+2·RL for 0x10, whatever its PL; of every other it is what the raw line takes
+abbrev pub rightLength : ℕ → ℕ → ℕ → ℕ
+rightLength command rl taken = cond (eqb command 0x10) (9 + 2 * rl) taken
 
--- a field against its rule
+abbrev pub wrongLengthBy : ℕ → List ℕ → Bool
+wrongLengthBy taken s = not (eqb (length s) (rightLength (getD s 1 0) (getD s 5 0) taken))
+
+abbrev pub wrongLength : List ℕ → Bool
+wrongLength s = wrongLengthBy (expectedIn s .length) s
+
+-- a field outside its rule: address, count, option or padding
 abbrev pub wrongField : List ℕ → Bool
 wrongField s = not (fieldsIn s .good)
 

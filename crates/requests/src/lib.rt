@@ -1,7 +1,7 @@
 // What a request asks: read from its bytes alone, with no length trusted.
 ghost use mathlib.Core.Path.{_≡_};
 ghost use Prim.Native.Nat.{_-_, _≤_};
-ghost use Rattle.requests.specs.Requests.{expect, expectedOf, expectedIn, lengthOf, inOneRange, clearedBy, clearFields, blockFields, addressAt, allShown, listFields, writeFields, kindOf, settingsFields, fieldsOf, isUnknown, foreign, damaged, requestOf, commandOf, hasLength, highFirst, marks, wordCount};
+ghost use Rattle.requests.specs.Requests.{expect, expectedOf, expectedIn, lengthOf, inOneRange, clearedBy, clearFields, blockFields, addressAt, allShown, listFields, writeFields, kindOf, settingsFields, fieldsOf, isUnknown, rightLength, wrongLengthBy, foreign, damaged, requestOf, commandOf, hasLength, highFirst, marks, wordCount};
 use numbers::byte_at;
 use numbers::high_first_16;
 use numbers::low_first_16;
@@ -168,7 +168,7 @@ pub fn parsed(bytes: &[u8]) -> Request
     if command.is_unknown() {
         return Request::Refused(Refusal::UnknownCommand);
     }
-    if bytes.len() != expected.length {
+    if is_wrong_length(bytes, expected.length) {
         return Request::Refused(Refusal::WrongLength);
     }
     let read = fields_of(command, bytes);
@@ -191,6 +191,23 @@ fn is_damaged(bytes: &[u8]) -> bool
 {
     let end = two_less(bytes.len());
     crc::crc(&bytes[..end]) != low_first_16(bytes, end)
+}
+
+// The raw line takes as many bytes for it; 0x10 has 9+2·RL, whatever its PL.
+fn is_wrong_length(bytes: &[u8], taken: usize) -> bool
+    ensures { λ r. ⌜ r ≡ wrongLengthBy taken (now (bytes .entry)) ⌝ }
+{
+    bytes.len() != right_length(byte_at(bytes, 1), byte_at(bytes, 5), taken)
+}
+
+fn right_length(command: u8, rl: u8, taken: usize) -> usize
+    ensures { λ r. ⌜ r ≡ rightLength command rl taken ⌝ }
+{
+    if command == 0x10 {
+        9 + 2 * (rl as usize)
+    } else {
+        taken
+    }
 }
 
 fn two_less(n: usize) -> usize

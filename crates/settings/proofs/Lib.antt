@@ -1,3 +1,4 @@
 pub mod Hundred
 pub mod Drafts
+pub mod Why
 mod Facts

@@ -10,9 +10,10 @@ use text::put_decimal;
 use text::put_word;
 use text::without_zeros;
 
-// What stands after a call: its number, the switches, and registers 51 and 52.
+// What stands after a call: its number, the register of a 44, the switches, and registers 51 and 52.
 pub(crate) struct State {
     pub number: u8,
+    pub register: u16,
     pub charge: bool,
     pub discharge: bool,
     pub need: u16,
@@ -55,7 +56,7 @@ pub(crate) fn put_mark(out: &mut [u8], at: usize, mark: u8) -> usize {
 
 // NUMBER SWITCHES NEED REAL
 fn put_state(out: &mut [u8], at: usize, state: State) -> usize {
-    let mut next = put_decimal(out, at, state.number as u64);
+    let mut next = put_number(out, at, state.number, state.register);
     next = put(out, next, SPACE);
     next = put(out, next, switch(state.charge, b'c'));
     next = put(out, next, switch(state.discharge, b'd'));
@@ -63,6 +64,16 @@ fn put_state(out: &mut [u8], at: usize, state: State) -> usize {
     next = put_word(out, next, state.need);
     next = put(out, next, SPACE);
     put_word(out, next, state.real)
+}
+
+// NUMBER, or 44:REGISTER.
+fn put_number(out: &mut [u8], at: usize, number: u8, register: u16) -> usize {
+    let next = put_decimal(out, at, number as u64);
+    if register == 0 {
+        return next;
+    }
+    let colon = put(out, next, b':');
+    put_decimal(out, colon, register as u64)
 }
 
 fn switch(is_on: bool, letter: u8) -> u8 {

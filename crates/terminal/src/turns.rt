@@ -123,6 +123,7 @@ fn shown(board: Board, at: u16, out: &mut [u8], said: usize) -> Turn {
 fn state_of(board: Board, outcome: Outcome) -> State {
     State {
         number: outcome.number(),
+        register: outcome.register(),
         charge: board.charge_switch(),
         discharge: board.discharge_switch(),
         need: board.decision_bits(),

@@ -1,2 +1,3 @@
 mod Facts
 pub mod LastPut
+pub mod Why

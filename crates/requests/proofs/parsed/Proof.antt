@@ -3,9 +3,6 @@ use mathlib.Core.Path.{_≡_, refl, sym, _∙_}
 use mathlib.Core.Bool.{Bool, true, false, not, cond}
 use mathlib.Core.List.{List, [], _∷_}
 use Prim.Native.Nat.{ℕ}
-use lib.Dec.{eqb}
-use lib.ListN.{length}
-use borrow.Author.Tests.{eq-eqb, ne-eqb}
 use denote.Ref.{now}
 use borrow.Author.Needs.{needs}
 use Rattle.refusals.specs.declared.Refusal.the-variants.{Foreign, Damaged, UnknownCommand, WrongLength, WrongField}
@@ -14,7 +11,7 @@ use Rattle.requests.specs.declared.Expected.{Expected}
 use Rattle.requests.specs.declared.Fields.{Fields}
 use Rattle.requests.specs.declared.Request.{Request}
 use Rattle.requests.specs.declared.Request.the-variants.{Refused}
-use Rattle.requests.specs.Requests.{expectedIn, fieldsOf, fieldsIn, foreign, damaged, isUnknown, unknownCommand}
+use Rattle.requests.specs.Requests.{expectedIn, fieldsOf, fieldsIn, foreign, damaged, isUnknown, unknownCommand, wrongLength, wrongLengthBy}
 use Rattle.requests.specs.Requests.{askedOf, requestBy, requestOf}
 use Rattle.requests.proofs.parsed.Statement.{statement}
 use Rattle.requests.proofs.parsed.Tie as tie
@@ -29,28 +26,27 @@ chain f d u l r =
     (cond (r .good) (r .asks) (Refused WrongField)))))
 
 -- the last three tests look at what is expected of the request
-tested : (s : List ℕ) {f d u t : Bool} {e : Expected} {r : Fields} → f ≡ foreign s → d ≡ damaged s → e ≡ expectedIn s
-    → u ≡ isUnknown (e .command) → eqb (length s) (e .length) ≡ t → r ≡ fieldsOf (e .command) s → chain f d u (not t) r ≡ requestOf s
+tested : (s : List ℕ) {f d u l : Bool} {e : Expected} {r : Fields} → f ≡ foreign s → d ≡ damaged s → e ≡ expectedIn s
+    → u ≡ isUnknown (e .command) → l ≡ wrongLengthBy (e .length) s → r ≡ fieldsOf (e .command) s → chain f d u l r ≡ requestOf s
 unfolding requestOf first
 tested s a b p c d e =
-    let t = eqb (length s) (expectedIn s .length) in
-    rw (a, b, c, ← d, e, p) (go (foreign s) (damaged s) (unknownCommand s) t (fieldsIn s .good) (askedOf s))
+    rw (a, b, c, d, e, p) (go (foreign s) (damaged s) (unknownCommand s) (wrongLength s) (fieldsIn s .good) (askedOf s))
   where
-    go : (f d u t g : Bool) (q : Request)
-        → chain f d u (not t) (record { good = g; asks = q })
-        ≡ requestBy (first ((Foreign, f) ∷ (Damaged, d) ∷ (UnknownCommand, u) ∷ (WrongLength, not t) ∷ (WrongField, not g) ∷ [])) q
-    go true d u t g q = refl
-    go false true u t g q = refl
-    go false false true t g q = refl
-    go false false false false g q = refl
-    go false false false true true q = refl
-    go false false false true false q = refl
+    go : (f d u l g : Bool) (q : Request)
+        → chain f d u l (record { good = g; asks = q })
+        ≡ requestBy (first ((Foreign, f) ∷ (Damaged, d) ∷ (UnknownCommand, u) ∷ (WrongLength, l) ∷ (WrongField, not g) ∷ [])) q
+    go true d u l g q = refl
+    go false true u l g q = refl
+    go false false true l g q = refl
+    go false false false true g q = refl
+    go false false false false true q = refl
+    go false false false false false q = refl
 
 -- of a request that is ours and whole, by what is expected of it
-whole : (c : tie.After-is-unknown) {u t : Bool} {r : Fields} →
+whole : (c : tie.After-is-unknown) {u l : Bool} {r : Fields} →
     let s = now (c .before .before .before .before .before .before .before .args .bytes) in
     let e = c .before .expected-in .result in
-    u ≡ c .is-unknown .result → eqb (length s) (e .length) ≡ t → r ≡ fieldsOf (e .command) s → chain false false u (not t) r ≡ requestOf s
+    u ≡ c .is-unknown .result → l ≡ wrongLengthBy (e .length) s → r ≡ fieldsOf (e .command) s → chain false false u l r ≡ requestOf s
 whole c q =
     let d = c .before .before in
     let f = d .before .before in
@@ -84,8 +80,13 @@ is-unknown-requires c κs = search needs
 returns-3 : tie.Need-returns-3
 returns-3 c = whole (c .before) (sym (c .if3 .taken)) refl refl
 
+is-wrong-length-requires : tie.Need-is-wrong-length-requires
+is-wrong-length-requires c κs = search needs
+
 returns-4 : tie.Need-returns-4
-returns-4 c = let k = c .before .before in whole (k .before) (sym (k .if3 .left)) (ne-eqb _ _ (c .if4 .taken)) refl
+returns-4 c =
+    let k = c .before .before in
+    whole (k .before) (sym (k .if3 .left)) (sym (c .if4 .taken) ∙ c .before .is-wrong-length .ensures) refl
 
 fields-of-requires : tie.Need-fields-of-requires
 fields-of-requires c κs = search needs
@@ -97,7 +98,7 @@ read-out : (c : tie.After-fields-of) →
     cond (r .good) (r .asks) (Refused WrongField) ≡ requestOf s
 read-out c =
     let k = c .before .before .before in
-    whole (k .before) (sym (k .if3 .left)) (eq-eqb _ _ (c .before .if4 .left)) (c .fields-of .ensures)
+    whole (k .before) (sym (k .if3 .left)) (sym (c .before .if4 .left) ∙ c .before .before .is-wrong-length .ensures) (c .fields-of .ensures)
 
 returns-5 : tie.Need-returns-5
 returns-5 c = rw (c .if5 .taken) at (read-out (c .before))
@@ -116,6 +117,7 @@ parsed-spec =
     expected-in-requires
     is-unknown-requires
     returns-3
+    is-wrong-length-requires
     returns-4
     fields-of-requires
     returns-5
