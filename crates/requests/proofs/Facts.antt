@@ -40,7 +40,7 @@ by-list :
 unfolding ruled against list first expectedOf fieldsOf allShown addressAt
 by-list = (refl, refl, refl, refl, refl)
 
--- a read list may mix ranges: 55, 117 and 399; an address outside them, 56, 99, 118, 299 or 400, is number 4, also after good ones
+-- a read list may mix ranges: 55, 117 and 399; an address outside them, 56, 99, 118, 299 or 400, is 43, also after good ones
 mixed : list 6 (55 ∷ 0 ∷ 117 ∷ 0 ∷ 0x8F ∷ 0x01 ∷ []) ≡ request.Read (Listed 3)
 unfolding ruled list first expectedOf fieldsOf allShown addressAt
 mixed = refl
