@@ -33,7 +33,8 @@ fn main() {
 }
 
 fn put_alike(ticks: usize) -> bool {
-    io::print_decimal(OUTPUT, ticks as u64) && put(true, b" ticks alike\n")
+    let is_counted = io::print_decimal(OUTPUT, ticks as u64);
+    put(is_counted, b" ticks alike\n")
 }
 
 // Both have the board's settings, which no recording writes.
