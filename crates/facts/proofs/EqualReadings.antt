@@ -71,10 +71,12 @@ readBy t =
       highest = highestOf (t .0);
     }
 
+measuredBy : Sensed → Measured
+measuredBy s = measuredOf (s .readings) (s .cells) (s .extremes)
+
 measured-last : (ts : List (List ℕ × Readings))
-    → (λ (s : Sensed). measuredOf (s .readings) (s .cells) (s .extremes)) (headOr noSensed (map sensedOf ts))
-    ≡ readBy (headOr (replicate 16 0, noReadings) ts)
-unfolding readBy
+    → measuredBy (headOr noSensed (map sensedOf ts)) ≡ readBy (headOr (replicate 16 0, noReadings) ts)
+unfolding measuredBy readBy
 measured-last [] = refl
 measured-last (t ∷ ts) =
     ap (λ (n : ℕ). record {
@@ -103,21 +105,21 @@ same-read e =
 
 -- ---- so what is seen is of that and of the slice's length alone
 
+abbrev seen-in : Seen → Outcome × List ℕ
+seen-in a = (a .outcome, a .buffer)
+
 slice-of : ℕ → Measured → Outcome × List ℕ
 slice-of n m = (first (cabinetRows n), cond (isDone (first (cabinetRows n))) (filledOf m 20) [])
 
 module _ (cells perKm : ℕ) (usable-count : usableCount cells ≡ true) (cs : List Call) (n : ℕ) where
-  h : List Deed
+  abbrev h : List Deed
   h = deeds cells perKm cs
 
-  b : Board
+  abbrev b : Board
   b = boardAt cells perKm h
 
-  seen-in : Seen → Outcome × List ℕ
-  seen-in a = (a .outcome, a .buffer)
-
   of-the-last : seen-in (shown board cells perKm cs (cabinet n)) ≡ slice-of n (readBy (lastRead h))
-  unfolding h b seen-in slice-of shape seenOf boardAt sensedAt
+  unfolding slice-of measuredBy shape seenOf boardAt sensedAt
   of-the-last =
       ap (λ (x : Board). seen-in (step x (cabinet n) .1)) (account cells perKm cs)
       ∙ ap (λ (o : Outcome). (o, cond (isDone o) (filledOf (measuredIn b) 20) [])) (by-rows b (shape (cabinet n)) usable-count)
@@ -130,7 +132,6 @@ module _ (B : Behaviour) (meets : Demand2 B) where
       ap (headOr (shown board cells perKm cs c)) (alike B meets cells perKm cs (c ∷ []))
 
   pub equal-slices : EqualSlices B
-  unfolding seen-in
   equal-slices cells perKm cells′ perKm′ xs ys n u u′ e =
       let x = as-ours cells perKm xs (cabinet n) in
       let y = as-ours cells′ perKm′ ys (cabinet n) in
