@@ -308,7 +308,7 @@ void ask(struct script *script, struct request *request)
     static const uint8_t short_commands[] = {0x14, 0x15, 0x16, 0x17, 0x18, 0x19, 0x1B, 0x1C};
     const int kind = between(script, 0, 99);
     *request = (struct request){{0xAA, 0x03}, 2};
-    if (between(script, 1, 100) <= script->quick_commands) {
+    if (so_many_of(script, script->mix.quick_commands, 100)) {
         ask_quickly(script, request);
     } else if (one_in(script, script->reads_of_events)) {
         request->bytes[1] = 0x11;

@@ -7,7 +7,7 @@
 #include <stdint.h>
 
 /* "Numbers the caller gets", 6 and 7 of W-201, 31 to 33 of W-205, 41 to 45 of W-208 in the place of 4, 61 and 62 of
-   W-211. */
+   W-211, 71 of W-213. */
 enum number {
     DONE = 0,
     ROOM_TOO_SMALL = 1,
@@ -29,7 +29,8 @@ enum number {
     OUT_OF_RANGE = 44,
     OUT_OF_ORDER = 45,
     BAD_RECORD = 61,
-    CUT_RECORD = 62
+    CUT_RECORD = 62,
+    WRONG_CABINET_SLICE = 71
 };
 
 enum {
@@ -42,6 +43,7 @@ enum {
     AREA_RECORD = 4,        /* bytes of a saved event: three of time, and its number */
     AREA_BYTES = EVENTS_KEPT * AREA_RECORD,
     OLD_AREA_BYTES = 192,   /* of an area that was saved before W-207 */
+    CABINET_REGISTERS = 20, /* W-213 */
     WINDOW = 10             /* ticks that the speed looks back on */
 };
 
@@ -126,6 +128,7 @@ enum number board_offer(struct board *board, const uint8_t *bytes, size_t length
 enum number board_fetch(struct board *board, uint8_t *reply, size_t room, uint16_t *which);
 enum number board_save(const struct board *board, uint8_t *area, size_t length);
 enum number board_load(struct board *board, const uint8_t *area, size_t length);
+enum number board_cabinet(const struct board *board, uint16_t *registers, size_t count);
 
 bool holds_frame(const struct board *board);
 bool is_ever_recorded(uint8_t event_number);

@@ -135,6 +135,16 @@ static char *say_bytes(char *at, const uint8_t *bytes, size_t length)
     return at;
 }
 
+/* " WORD.." */
+static char *say_words(char *at, const uint16_t *words, size_t count)
+{
+    for (size_t word = 0; word < count; word++) {
+        *at++ = ' ';
+        at = say_word(at, words[word]);
+    }
+    return at;
+}
+
 /* " BYTE.. +Z": the whole buffer, its trailing zero bytes as their count. */
 static char *say_buffer(char *at, const uint8_t *buffer, size_t room)
 {
@@ -243,6 +253,18 @@ static char *call_load(struct board *board, struct words *words, char *answer)
     return say_state(answer, number, board);
 }
 
+/* "every register of the slice as it stands after the call, four hex digits each" */
+static char *call_cabinet(const struct board *board, struct words *words, char *answer)
+{
+    int64_t length;
+    uint16_t registers[MOST_REGISTERS_LENT];
+    if (!take_number(words, 0, MOST_REGISTERS_LENT, &length) || another_word(words))
+        return NULL;
+    memset(registers, 0x5A, sizeof registers);
+    const enum number number = board_cabinet(board, registers, (size_t)length);
+    return say_words(say_state(answer, number, board), registers, (size_t)length);
+}
+
 static char *call_handover(struct board *board, struct words *words, char *answer)
 {
     if (another_word(words))
@@ -291,6 +313,8 @@ static char *make_call(struct board *board, struct words *words, char *answer)
         return call_save(board, words, answer);
     if (take_word(words, "load"))
         return call_load(board, words, answer);
+    if (take_word(words, "cabinet"))
+        return call_cabinet(board, words, answer);
     if (take_word(words, "handover"))
         return call_handover(board, words, answer);
     if (take_word(words, "crc"))

@@ -2,7 +2,8 @@
    second --fault N                the same with one slip of the old board, N 1 to 6
    second --script SEED CALLS      prints a script of calls that press the limits
    second --script SEED CALLS K    the same of one kind, K ticks or frames; or of all kinds, K quick with a quarter of
-                                   the frames of W-202, K memory with a twentieth of the calls of W-205
+                                   the frames of W-202, K memory with a twentieth of the calls of W-205, K cabinet with
+                                   a twentieth of W-213
    second --limits NAME            prints a script that drives a count to its end; limits.c has the names
    second --compare NAME SCRIPT    holds the board's answers, on standard input, to its own answers to the file SCRIPT
    second --replay                 plays a recording from standard input, and prints its events
@@ -186,7 +187,7 @@ static int print_script_of(int words, char **word)
     static const struct {
         const char *name;
         enum script_kind kind;
-    } kinds[] = {{"ticks", TICKS}, {"frames", FRAMES}, {"quick", QUICK}, {"memory", MEMORY}};
+    } kinds[] = {{"ticks", TICKS}, {"frames", FRAMES}, {"quick", QUICK}, {"memory", MEMORY}, {"cabinet", CABINET}};
     const uint64_t seed = number_of("SEED", word[2], 0, UINT64_MAX), calls = number_of("CALLS", word[3], 1, UINT64_MAX);
     if (words == 4) {
         print_script(seed, calls, MIXED);
@@ -240,7 +241,8 @@ int main(int words, char **word)
 {
     const int status = obey_words(words, word);
     if (status == WRONG_WORDS)
-        fputs("usage: second | second --fault 1..6 | second --script SEED CALLS [ticks|frames|quick|memory]\n"
+        fputs("usage: second | second --fault 1..6\n"
+              "       second --script SEED CALLS [ticks|frames|quick|memory|cabinet]\n"
               "       second --limits latchings|currents|distance|event-time|event-numbers\n"
               "       second --compare NAME SCRIPT | second --replay | second --calls | second --engine\n"
               "       second --line [RECORDING]\n"

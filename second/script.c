@@ -172,6 +172,41 @@ static void press_pulses(struct script *script, struct tick *tick)
         tick->pulses = 65535;
 }
 
+/* Both externals, one or none; sums of both that are odd and negative. */
+static int press_cabinet_temperature(struct script *script)
+{
+    static const int limits[] = {-32767, -32767, -32766, 32766, 32767, -5, -1, 0, 1};
+    if (one_in(script, 3))
+        return PICK(script, limits);
+    return one_in(script, 2) ? between(script, -9, 9) : between(script, -600, 600);
+}
+
+/* "at most 10,485": every cell at 65,535, or at 0, or each at one of the two. */
+static void press_ends_of_cells(struct script *script, struct tick *tick)
+{
+    const bool alike = one_in(script, 2);
+    int level = one_in(script, 2) ? 65535 : 0;
+    for (int at = 0; at < tick->cells; at++) {
+        tick->cell[at] = level;
+        if (!alike)
+            level = one_in(script, 2) ? 65535 : 0;
+    }
+}
+
+/* "rounded toward zero and held to -32768 to 32767": in 10 mA, and it is held from 327,680 and from -327,690 mA on. */
+static void press_cabinet(struct script *script, struct tick *tick)
+{
+    static const int limits[] = {0, 9, -9, 10, -10, 327670, 327680, -327680, -327690, 1000000, -1000000};
+    if (one_in(script, 2))
+        tick->current = hold(near(script, PICK(script, limits)), -1000000, 1000000);
+    for (int at = 0; at < 2; at++)
+        tick->external[at] = one_in(script, 3) ? NOT_CONNECTED : press_cabinet_temperature(script);
+    if (one_in(script, 2))
+        tick->internal = press_cabinet_temperature(script);
+    if (one_in(script, 6))
+        press_ends_of_cells(script, tick);
+}
+
 static void say_tick(struct script *script)
 {
     struct tick tick;
@@ -192,6 +227,8 @@ static void say_tick(struct script *script)
             press_temperatures(script, &tick);
         if (one_in(script, 3))
             press_pulses(script, &tick);
+        if (so_many_of(script, script->mix.cabinet_ticks, 100))
+            press_cabinet(script, &tick);
     }
     if (one_in(script, 10))
         script->charger = !script->charger;
@@ -333,6 +370,17 @@ static void say_save_or_load(struct script *script)
         say_load(script);
 }
 
+/* ---- The cabinet ---- */
+
+static void say_cabinet(struct script *script)
+{
+    static const int wrong[] = {0, 1, CABINET_REGISTERS - 1, CABINET_REGISTERS + 1, 40};
+    int length = CABINET_REGISTERS;
+    if (one_in(script, 5))
+        length = one_in(script, 3) ? between(script, 0, MOST_REGISTERS_LENT) : PICK(script, wrong);
+    say(script, "cabinet %d", length);
+}
+
 /* ---- Other lines ---- */
 
 static void say_crc(struct script *script)
@@ -359,6 +407,8 @@ static const char *const junk[] = {
     "offer GG", "fetch", "fetch 601", "fetch -0", "fetch 259 AA", "fetch 0600", "fetch 259 ", "fetch x", "fetched 259",
     "save", "save 601", "save -0", "save 248 248", "save 0248", "save x", "save 0xF8", "saved 248", "Save 248",
     "load", "load F", "load FFF", "load FFFF", "load GG", "load 248 FF", "loads FF", "Load FF", "load fF Ff",
+    "cabinet", "cabinet 41", "cabinet -0", "cabinet -1", "cabinet 20 20", "cabinet 020", "cabinet x", "cabinet 0x14",
+    "cabinets 20", "Cabinet 20", "cabinet20", "cabinet 20 ",
     "crc", "crc 1", "crc 001", "crc ZZ", "crc aB Ba", "register", "register 65536", "register -0", "register 50 50",
     "register 0050", "tick 0 250 250 250 0 0",
     "tick 2147483648 250 250 250 0 0 0 1 2 3 4", "tick -2147483649 250 250 250 0 0 0 1 2 3 4",
@@ -400,7 +450,7 @@ static void say_junk(struct script *script)
 /* "Number 21 gives back no usable board: any later call on it, handover included, answers 21" */
 static void say_call_without_board(struct script *script)
 {
-    const int kind = between(script, 0, 7);
+    const int kind = between(script, 0, 8);
     script->unstarted--;
     if (kind == 0)
         say(script, "handover");
@@ -416,6 +466,8 @@ static void say_call_without_board(struct script *script)
         say(script, "fetch %d", make_room(script, 2));
     else if (kind == 7)
         say_save_or_load(script);
+    else if (kind == 8)
+        say_cabinet(script);
     else
         say_frame(script);
 }
@@ -436,8 +488,10 @@ static void say_call(struct script *script)
     const int kind = between(script, 0, 9999);
     if (script->board.cells == 0) {
         say_call_without_board(script);
-    } else if (between(script, 1, 1000) <= script->saves_and_loads) {
+    } else if (so_many_of(script, script->mix.saves_and_loads, 1000)) {
         say_save_or_load(script);
+    } else if (so_many_of(script, script->mix.cabinets, 1000)) {
+        say_cabinet(script);
     } else if (kind < 12) {
         say_start(script);
     } else if (kind < 70) {
@@ -468,13 +522,25 @@ static void say_call_of_one_kind(struct script *script, enum script_kind kind, u
         say_app_frame(script);
 }
 
+static struct mix mix_of(enum script_kind kind)
+{
+    struct mix mix = {.quick_commands = 12, .saves_and_loads = 15, .cabinets = 10, .cabinet_ticks = 3};
+    switch (kind) {
+    case TICKS: mix.cabinet_ticks = 0; break;
+    case FRAMES: mix.cabinet_ticks = 0; break;
+    case QUICK: mix.quick_commands = 26; break;
+    case MEMORY: mix.saves_and_loads = 52; break;
+    case CABINET: mix.cabinets = 52; mix.cabinet_ticks = 50; break;
+    default: break;
+    }
+    return mix;
+}
+
 void print_script(uint64_t seed, uint64_t calls, enum script_kind kind)
 {
     static struct script script;
     char ignored[ANSWER_ROOM];
-    script = (struct script){.chance = seed, .unstarted = 4, .reads_of_events = 12,
-                             .quick_commands = kind == QUICK ? 26 : 12,
-                             .saves_and_loads = kind == MEMORY ? 52 : 15};
+    script = (struct script){.chance = seed, .mix = mix_of(kind), .unstarted = 4, .reads_of_events = 12};
     memset(script.saved, 0xFF, sizeof script.saved);
     board_start(&script.board, 0, 0);
     for (uint64_t call = 0; call < calls; call++) {

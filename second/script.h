@@ -8,19 +8,26 @@
 /* What a sensor is for some ticks of a run around OT. */
 enum heat { COOL, WARM, HOT, UNPLUGGED };
 
+/* How often some calls come, and some ticks. */
+struct mix {
+    int quick_commands;         /* so many requests of 100 are of W-202 */
+    int saves_and_loads;        /* so many calls of 1,000 */
+    int cabinets;               /* so many calls of 1,000 */
+    int cabinet_ticks;          /* so many ticks of 100 press what a cabinet reads */
+};
+
 struct script {
     uint64_t chance;
+    struct mix mix;
     struct board board;
     bool charger, ignition;
     int unstarted;              /* calls left before the first start may come */
     int quiet;                  /* ticks left of a quiet run */
     int around_OT;              /* ticks left of a run around OT */
     enum heat internal, external[2];    /* in that run */
-    int quick_commands;         /* so many requests of 100 are of W-202 */
     int reads_of_events;        /* one other request in so many is 0x11 */
     uint8_t waiting[3 * MOST_BYTES];    /* bytes on the raw line that are still to be offered */
     size_t waiting_length;
-    int saves_and_loads;        /* so many calls of 1,000 */
     uint8_t saved[AREA_BYTES];  /* the area of the latest save */
     char line[LONGEST_LINE + 100];
     size_t length;
@@ -34,6 +41,11 @@ struct request {
 static inline int r(const struct script *script, unsigned number)
 {
     return read_setting(&script->board.settings, number);
+}
+
+static inline bool so_many_of(struct script *script, int times, int all)
+{
+    return times > 0 && between(script, 1, all) <= times;
 }
 
 /* The end of a range of registers, a number next to one, or one between. */

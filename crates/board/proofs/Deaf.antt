@@ -1,4 +1,4 @@
--- A tick, a frame, a handover, a save and a load neither look at what is held of the raw line nor touch it (a handover drops it): so calls
+-- A tick, a frame, a handover, a save, a load and a cabinet's call neither look at what is held of the raw line nor touch it (a handover drops it): so calls
 -- that are none of the line's are answered alike, whatever is held; and an offer changes nothing else, so once what was heard is let go no
 -- offer shows. Assumes nothing.
 use mathlib.Core.Path.{_≡_, refl, sym, ap, _∙_}
@@ -26,7 +26,7 @@ use Rattle.board.specs.State.{usable, withReceiver}
 use Rattle.board.specs.Handover.{handedOver}
 use Rattle.board.specs.Line.{letGo}
 use Rattle.board.specs.Changes.{changedBy}
-use Rattle.board.specs.Calls.{Call, tick, frame, handover, offer, fetch, save, load}
+use Rattle.board.specs.Calls.{Call, tick, frame, handover, offer, fetch, save, load, cabinet}
 use Rattle.board.specs.Calls.{Seen, seen, replyLent, Shape, shape, outcomeOf}
 use Rattle.board.specs.Calls.{letsGo, boardBy, seenOf, outcomeIn, boardAfter, step}
 use Rattle.board.specs.Behaviour.{board, afterIn, answersIn}
@@ -94,6 +94,7 @@ module _ (b : Board) (r : Receiver) where
   same (fetch room) e = absurd (false≢true (sym e))
   same (save n) e = record { fetches = refl; rows = refl; lent = refl; carries = refl; held = r; none = λ e. e; done = refl }
   same (load area) e = record { fetches = refl; rows = refl; lent = refl; carries = refl; held = r; none = λ e. e; done = refl }
+  same (cabinet n) e = record { fetches = refl; rows = refl; lent = refl; carries = refl; held = r; none = λ e. e; done = refl }
 
   module _ (c : Call) (so : Same (shape c)) where
     outcome : outcomeIn (withReceiver b r) c ≡ outcomeIn b c
@@ -185,3 +186,4 @@ all-let-go b (c ∷ cs) e = go c (shape c .fetches) refl (shape c .onLine) refl 
     go (fetch room) false f true o e later = absurd (false≢true (sym f))
     go (save n) false f true o e later = absurd (false≢true o)
     go (load area) false f true o e later = absurd (false≢true o)
+    go (cabinet n) false f true o e later = absurd (false≢true o)

@@ -14,7 +14,8 @@ use Rattle.pack.specs.Pack as pack
 use Rattle.board.specs.declared.Board.{Board}
 use Rattle.board.specs.declared.Answer.{Answer}
 use Rattle.board.specs.State.{usable}
-use Rattle.board.specs.Calls.{Call, Shape, shape, outcomeOf, lost, letsGo, boardBy, outcomeIn, boardAfter, answerTo}
+use Rattle.board.specs.Calls.{Call, Shape, areaLent, shape, outcomeOf, lost, letsGo, boardBy, leftOf, outcomeIn, boardAfter, answerTo}
+use Rattle.board.specs.Promises.{Leaves, leftIn}
 
 -- a test that is not met, and one that is
 pub not-true-false : (t : Bool) → not t ≡ true → t ≡ false
@@ -105,3 +106,28 @@ module _ (b : Board) (c : Call) where
 
   pub none : (o : Outcome) → o ≡ Refused NoBoard → usable b ≡ false → _≡_ {A = Answer} (record { outcome = o; board = b }) (answerTo b c)
   none o d e = answered o b (d ∙ sym (none-21 b (shape c) e)) (sym (kept-none b (shape c) o d))
+
+-- ---- a call that is lent an area: what the function that writes it says of it is what the call leaves
+
+left-in : (b : Board) (c : Call) (area before : List ℕ) → shape c .lent b ≡ areaLent area
+    → leftIn b c before ≡ cond (isDone (outcomeIn b c)) area before
+unfolding leftOf
+left-in b c area before lent = ap (λ l. leftOf l (outcomeIn b c) before) lent
+
+module _ (b : Board) (c : Call) {area before : List ℕ} {o : Outcome} {r : Answer} (lent : shape c .lent b ≡ areaLent area) where
+  pub writes : {x : Board} {after : List ℕ} → usable b ≡ true → o ≡ first (shape c .rows b) → after ≡ cond (isDone o) area before
+      → x ≡ boardBy b (shape c) o → r ≡ record { outcome = o; board = x } → Leaves b c before r after
+  writes {x} {after} some by-own-rows written boarded told =
+      let is = by-own-rows ∙ sym (by-rows b (shape c) some) in
+      record {
+        answer = told ∙ answered b c o x is boarded;
+        lent = written ∙ ap (λ (p : Outcome). cond (isDone p) area before) is ∙ sym (left-in b c area before lent);
+      }
+
+  pub writes-nothing : usable b ≡ false → o ≡ Refused NoBoard → r ≡ record { outcome = o; board = b } → Leaves b c before r before
+  writes-nothing none-usable is told =
+      record {
+        answer = told ∙ none b c o is none-usable;
+        lent = sym
+            (left-in b c area before lent ∙ ap (λ (p : Outcome). cond (isDone p) area before) (none-21 b (shape c) none-usable));
+      }

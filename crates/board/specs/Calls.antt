@@ -14,6 +14,7 @@ use Rattle.refusals.specs.declared.Outcome.{Outcome}
 use Rattle.refusals.specs.declared.Outcome.the-variants.{Done, Refused}
 use Rattle.refusals.specs.Refusals.{refusalNumber, leftBy, isDone, first}
 use Rattle.events.specs.Area.{saveRows, loadRows, areaOf, eventsIn, listOf}
+use Rattle.cabinet.specs.Cabinet.{cabinetRows, filledOf}
 use Rattle.readings.specs.declared.Readings.{Readings}
 use Rattle.readings.specs.Readings.{tickRows}
 use Rattle.receiver.specs.Receiver.{taken, filled}
@@ -23,7 +24,7 @@ use Rattle.answers.specs.Answers.{acceptedReply, askedRows, replyBy}
 use Rattle.board.specs.declared.Board.{Board}
 use Rattle.board.specs.declared.Answer.{Answer}
 use Rattle.board.specs.declared.Heard.{Heard}
-use Rattle.board.specs.State.{usable, withEvents, withReceiver}
+use Rattle.board.specs.State.{usable, withEvents, withReceiver, measuredIn}
 use Rattle.board.specs.Tick.{tickedOf}
 use Rattle.board.specs.Changes.{changedBy, askedDeeds}
 use Rattle.board.specs.Line.{heldIn, holds, letGo}
@@ -32,7 +33,7 @@ use Rattle.board.specs.Deeds.{Deed, took, handed, heard, fetched, loaded
 
 -- the calls after a start: a tick (cells and the other readings), a frame (its bytes, and the length of the reply buffer that is lent), and
 -- a handover; of the raw line, an offer (its bytes) and a fetch (the length of the reply buffer that is lent); of the pack's memory, a save
--- (the length of the area that is lent) and a load (the area)
+-- (the length of the area that is lent) and a load (the area); for a partner's cabinet, the length of the slice that is lent
 pub data Call : Type 0 where
   tick : List ℕ → Readings → Call
   frame : List ℕ → ℕ → Call
@@ -41,11 +42,12 @@ pub data Call : Type 0 where
   fetch : ℕ → Call
   save : ℕ → Call
   load : List ℕ → Call
+  cabinet : ℕ → Call
 
 -- ---- the shape of a call
 
 -- what is lent, and what a call that is done leaves there: nothing; a buffer of that room for the reply to the request s, and the reply
--- before its zeros; an area, which a refused call does not write
+-- before its zeros; an area or a slice, which a refused call does not write
 pub data Lent : Type 0 where
   nothingLent : Lent
   replyLent : (s : List ℕ) (room : ℕ) (reply : List ℕ) → Lent
@@ -67,7 +69,7 @@ pub record Shape : Type 0 where
   -- it answers the held frame
   pub fetches : Bool
 
--- a call that is lent nothing; one that is lent an area, and changes nothing
+-- a call that is lent nothing; one that is lent an area or a slice, and changes nothing
 abbrev pub plain : (Board → List (Refusal × Bool)) → (Board → Board) → (Board → List Deed) → Shape
 plain rows done deeds =
     record { rows = rows; done = done; lent = λ b. nothingLent; carries = λ b. 0; deeds = deeds; onLine = false; fetches = false }
@@ -115,6 +117,8 @@ shape (offer bytes) =
 shape (fetch room) = answering heldIn room (λ b. (NoFrameHeld, not (holds b)) ∷ []) letGo (fetched ∷ []) true
 shape (save n) = writing (λ b. saveRows n) (λ b. areaOf (b .hire .events))
 shape (load area) = plain (λ b. loadRows area) (λ b. withEvents b (listOf (eventsIn area))) (λ b. loaded (eventsIn area) ∷ [])
+-- from the readings that the board holds, and nothing else
+shape (cabinet n) = writing (λ b. cabinetRows n) (λ b. filledOf (measuredIn b) 20)
 
 -- ---- one call, of its shape
 

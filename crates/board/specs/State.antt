@@ -2,6 +2,8 @@
 -- one part anew.
 -- Assumes nothing.
 use mathlib.Core.Bool.{Bool}
+use Rattle.cabinet.specs.declared.Measured.{Measured}
+use Rattle.cabinet.specs.Cabinet.{measuredOf}
 use Rattle.events.specs.declared.Events.{Events}
 use Rattle.receiver.specs.declared.Receiver.{Receiver}
 use Rattle.settings.specs.declared.Settings.{Settings}
@@ -33,3 +35,7 @@ withStatistics b x = withHire b (hire.withStatistics (b .hire) x)
 
 abbrev pub withReceiver : Board → Receiver → Board
 withReceiver b x = withHire b (hire.withReceiver (b .hire) x)
+
+-- what a cabinet asks for of the readings that the board holds
+abbrev pub measuredIn : Board → Measured
+measuredIn b = measuredOf (b .hire .sensed .readings) (b .hire .sensed .cells) (b .hire .sensed .extremes)

@@ -1,9 +1,10 @@
 // The board of one pack: a state that goes in by value and comes back. It takes a tick every 100 ms, a frame for each request,
-// or the bytes of the raw line as they come, and a handover between two riders; its events are saved and loaded; what it shows can be read at
-// any time.
+// or the bytes of the raw line as they come, and a handover between two riders; its events are saved and loaded, a partner's cabinet reads its
+// registers; what it shows can be read at any time.
 mod area;
 mod frame;
 mod line;
+mod partner;
 mod shown;
 mod tick;
 

@@ -6,8 +6,9 @@ use Prim.Native.Nat.{ℕ, _/_, _≤_}
 use native.Mathlib.Omega.{arith}
 use lib.IntN.{ℤ, pos, negsuc}
 use Rattle.signed.specs.Signed.{bitsOf}
+use Rattle.refusals.specs.Refusals.{numberOf, first}
 use Rattle.cabinet.specs.declared.Measured.{Measured}
-use Rattle.cabinet.specs.Cabinet.{voltsOf, ampsOf, averageOf, highestOf, lowestOf, registerAt, filledOf}
+use Rattle.cabinet.specs.Cabinet.{voltsOf, ampsOf, averageOf, highestOf, lowestOf, registerAt, filledOf, cabinetRows}
 
 -- the temperature of an external that is not connected
 off : ℤ
@@ -77,3 +78,8 @@ twenty : filledOf read 20
     ≡ 3360 ∷ 65386 ∷ 0 ∷ 122 ∷ 0 ∷ 0 ∷ 0 ∷ 0 ∷ 0 ∷ 0 ∷ 0 ∷ 0 ∷ 0 ∷ 4201 ∷ 4199 ∷ 0 ∷ 250 ∷ 65531 ∷ 312 ∷ 0 ∷ []
 unfolding read filledOf registerAt bitsOf
 twenty = refl
+
+-- 71, slice not exactly twenty
+wrong-slice : map (λ n. numberOf (first (cabinetRows n))) (20 ∷ 19 ∷ 21 ∷ 0 ∷ 40 ∷ []) ≡ 0 ∷ 71 ∷ 71 ∷ 71 ∷ 71 ∷ []
+unfolding first
+wrong-slice = refl

@@ -17,7 +17,7 @@ use borrow.Author.Tests.{ltb-true, ltb-false, leb-true, leb-false, ne-eqb}
 use Rattle.signed.specs.Signed.{lift, bitsOf, above, below}
 use Rattle.readings.specs.Readings.{connected}
 use Rattle.cabinet.specs.declared.Measured.{Measured}
-use Rattle.cabinet.specs.Cabinet.{heldTo16, ampsOf, half, ofConnected, registerAt, filledOf, Filled}
+use Rattle.cabinet.specs.Cabinet.{heldTo16, ampsOf, half, ofConnected, registerAt, filledOf}
 
 -- a current below zero: the tenth of its size, with the sign put back
 below-zero : (k : ℕ) → (65536 - min k 32768) % 65536 ≡ bitsOf (heldTo16 (negℤ (pos k)))
@@ -70,43 +70,16 @@ pub half-by-bits : (a b : ℤ) → mag a < 32768 → mag b < 32768
 half-by-bits a b f g = let s = sum-raised a b f g in rw (s .0) (half-raised (a +ℤ b) (s .1))
 
 -- the bits of what the connected externals give
-pub bits-of-connected : (both : ℤ → ℤ → ℤ) (a b : ℤ)
-    → cond (connected a) (cond (connected b) (bitsOf (both a b)) (bitsOf a)) (cond (connected b) (bitsOf b) 0)
-    ≡ bitsOf (ofConnected both a b)
+pub bits-of-connected : (a b both : ℤ)
+    → cond (connected a) (cond (connected b) (bitsOf both) (bitsOf a)) (cond (connected b) (bitsOf b) 0) ≡ bitsOf (ofConnected a b both)
 unfolding bitsOf
-bits-of-connected both a b = go (connected a) (connected b)
+bits-of-connected a b both = go (connected a) (connected b)
   where
-    go : (s t : Bool) → cond s (cond t (bitsOf (both a b)) (bitsOf a)) (cond t (bitsOf b) 0)
-        ≡ bitsOf (cond s (cond t (both a b) a) (cond t b (pos 0)))
+    go : (s t : Bool) → cond s (cond t (bitsOf both) (bitsOf a)) (cond t (bitsOf b) 0) ≡ bitsOf (cond s (cond t both a) (cond t b (pos 0)))
     go true true = refl
     go true false = refl
     go false true = refl
     go false false = refl
-
--- from place 19 on every register is 0
-pub zero-from-19 : (m : Measured) (at : ℕ) → 19 ≤ at → registerAt m at ≡ 0
-unfolding registerAt
-zero-from-19 m at h =
-    simp (
-      ne-eqb at 0 (omega arith),
-      ne-eqb at 1 (omega arith),
-      ne-eqb at 3 (omega arith),
-      ne-eqb at 13 (omega arith),
-      ne-eqb at 14 (omega arith),
-      ne-eqb at 16 (omega arith),
-      ne-eqb at 17 (omega arith),
-      ne-eqb at 18 (omega arith),
-    )
-
--- so a place may be held to 19
-pub held-place : (m : Measured) (i : ℕ) → registerAt m (min i 19) ≡ registerAt m i
-held-place m i = go (leb i 19) refl
-  where
-    go : (t : Bool) → leb i 19 ≡ t → registerAt m (min i 19) ≡ registerAt m i
-    go true e = let h : i ≤ 19 = leb-true i 19 e in ap (registerAt m) (omega arith)
-    go false e =
-        let h : 19 < i = leb-false i 19 e in
-        zero-from-19 m (min i 19) (omega arith) ∙ sym (zero-from-19 m i (omega arith))
 
 -- i places of the slice are filled
 pub record FilledTo (m : Measured) (l₀ : List ℕ) (i : ℕ) (l : List ℕ) : Type 0 where
@@ -127,10 +100,11 @@ one-filled {m} {l₀} {l} {i} {word} e h w =
       filled-to = rw add-one (take-suc-set l i word (omega arith) ∙ rw (e .filled-to, w));
     }
 
-pub all-filled : {m : Measured} {l₀ l : List ℕ} {i : ℕ} → FilledTo m l₀ i l → i ≡ length l₀ → Filled m l₀ l
-all-filled {m} {l₀} {l} {i} e h =
-    let k : length l ≡ length l₀ = e .same in
-    record { filled = sym (take-all i l (omega arith)) ∙ e .filled-to ∙ ap (filledOf m) h }
+pub all-filled : {m : Measured} {before after : List ℕ} {i n : ℕ} → FilledTo m before i after → i ≡ n → length before ≡ n
+    → after ≡ filledOf m n
+all-filled {m} {before} {after} {i} {n} e h long =
+    let k : length after ≡ length before = e .same in
+    sym (take-all i after (omega arith)) ∙ e .filled-to ∙ ap (filledOf m) h
 
 -- what the filled slice has at a place is the register of that place
 pub length-filled : (m : Measured) (n : ℕ) → length (filledOf m n) ≡ n

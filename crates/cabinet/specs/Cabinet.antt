@@ -1,6 +1,6 @@
 -- What a partner's charging cabinet reads (W-213): the registers 0x1000 to 0x1013, of what one tick read.
 -- Assumes nothing.
-use mathlib.Core.Bool.{cond}
+use mathlib.Core.Bool.{Bool, not, cond}
 use mathlib.Core.List.{List, [], _∷_, _++_}
 use mathlib.Core.Path.{_≡_}
 use Prim.Native.Nat.{ℕ, zero, suc, _/_, min}
@@ -8,7 +8,13 @@ use lib.Dec.{eqb}
 use lib.IntN.{ℤ, pos, negsuc, negℤ, _+ℤ_}
 use lib.ListN.{length}
 use Rattle.signed.specs.Signed.{bitsOf, lowerOf, higherOf}
-use Rattle.cells.specs.Cells.{millivoltsOf}
+use Rattle.refusals.specs.declared.Refusal.{Refusal}
+use Rattle.refusals.specs.declared.Refusal.the-variants.{WrongSlice}
+use Rattle.refusals.specs.declared.Outcome.{Outcome}
+use Rattle.refusals.specs.Refusals.{isDone, first}
+use Rattle.cells.specs.declared.Extremes.{Extremes}
+use Rattle.cells.specs.Cells.{sumOf, millivoltsOf}
+use Rattle.readings.specs.declared.Readings.{Readings}
 use Rattle.readings.specs.Readings.{connected}
 use Rattle.cabinet.specs.declared.Measured.{Measured}
 
@@ -36,21 +42,20 @@ half (pos k) = pos (k / 2)
 half (negsuc k) = negsuc (k / 2)
 
 -- of the connected externals: what both give, one alone as it is, 0 when none is connected
-abbrev pub ofConnected : (ℤ → ℤ → ℤ) → ℤ → ℤ → ℤ
-ofConnected both first second =
-    cond (connected first) (cond (connected second) (both first second) first) (cond (connected second) second (pos 0))
+abbrev pub ofConnected : ℤ → ℤ → ℤ → ℤ
+ofConnected first second both = cond (connected first) (cond (connected second) both first) (cond (connected second) second (pos 0))
 
 -- the average of the connected externals, rounded toward minus infinity
 abbrev pub averageOf : ℤ → ℤ → ℤ
-averageOf = ofConnected (λ a b. half (a +ℤ b))
+averageOf first second = ofConnected first second (half (first +ℤ second))
 
 -- the highest connected external temperature
 abbrev pub highestOf : ℤ → ℤ → ℤ
-highestOf = ofConnected higherOf
+highestOf first second = ofConnected first second (higherOf first second)
 
 -- the lowest connected external temperature
 abbrev pub lowestOf : ℤ → ℤ → ℤ
-lowestOf = ofConnected lowerOf
+lowestOf first second = ofConnected first second (lowerOf first second)
 
 -- the register at a place from 0x1000 on: 0x100D and 0x100E as registers 41 and 40; all others 0
 unfoldable pub registerAt : Measured → ℕ → ℕ
@@ -70,6 +75,23 @@ unfoldable pub filledOf : Measured → ℕ → List ℕ
 filledOf m zero = []
 filledOf m (suc n) = filledOf m n ++ (registerAt m n ∷ [])
 
--- what is left in a lent slice: each of its places has its register, and nothing of what was there before
-pub record Filled (m : Measured) (before after : List ℕ) : Type 0 where
-  pub filled : after ≡ filledOf m (length before)
+-- of a tick's readings, its cells and the extremes of these
+abbrev pub measuredOf : Readings → List ℕ → Extremes → Measured
+measuredOf r cells extremes =
+    record {
+      current = r .current;
+      internal = r .internal;
+      external1 = r .external1;
+      external2 = r .external2;
+      sum = sumOf cells;
+      lowest = extremes .lowest;
+      highest = extremes .highest;
+    }
+
+-- 71, slice not exactly twenty, nothing written
+abbrev pub cabinetRows : ℕ → List (Refusal × Bool)
+cabinetRows n = (WrongSlice, not (eqb n 20)) ∷ []
+
+pub record Fills (m : Measured) (before : List ℕ) (outcome : Outcome) (after : List ℕ) : Type 0 where
+  pub outcome-is : outcome ≡ first (cabinetRows (length before))
+  pub slice : after ≡ cond (isDone outcome) (filledOf m 20) before

@@ -4,7 +4,11 @@ ghost use mathlib.Core.Bool.{cond};
 ghost use Prim.Native.Nat.{_+_, _/_, _%_, _≤_, min};
 ghost use Rattle.signed.specs.Signed.{bitsOf};
 ghost use Rattle.readings.specs.Readings.{connected};
-ghost use Rattle.cabinet.specs.Cabinet.{voltsOf, ampsOf, averageOf, highestOf, lowestOf, registerAt, Filled};
+ghost use Rattle.cabinet.specs.Cabinet.{voltsOf, ampsOf, averageOf, measuredOf, registerAt, Fills};
+use cells::Extremes;
+use readings::Readings;
+use refusals::Outcome;
+use refusals::Refusal;
 
 // What a tick read, as far as a cabinet asks for it.
 pub struct Measured {
@@ -18,40 +22,58 @@ pub struct Measured {
 }
 
 impl Measured {
-    // By its place from 0x1000 on; past 0x1013 every place is 0 too.
-    pub fn register(self, at: u16) -> u16
+    // Of a tick's readings, and of its cells as they are kept, with zeros after them.
+    pub fn of(readings: Readings, cells: [u16; 16], extremes: Extremes) -> Measured
+        ensures { λ r. ⌜ r ≡ measuredOf readings cells extremes ⌝ }
+    {
+        Measured {
+            current: readings.current,
+            internal: readings.internal,
+            external1: readings.external1,
+            external2: readings.external2,
+            sum: cells::sum(&cells),
+            lowest: extremes.lowest,
+            highest: extremes.highest,
+        }
+    }
+
+    // Every register of the slice; nothing written where it is refused.
+    pub fn fill(self, slice: &mut [u16]) -> Outcome
+        ensures { λ r. ⌜ Fills self (now (slice .entry)) r (now (slice .exit)) ⌝ }
+    {
+        if slice.len() != 20 {
+            return Outcome::Refused(Refusal::WrongSlice);
+        }
+        let mut i: u16 = 0;
+        while i < 20 {
+            slice[i as usize] = self.register(i);
+            i += 1;
+        }
+        Outcome::Done
+    }
+
+    // By its place from 0x1000 on.
+    fn register(self, at: u16) -> u16
         ensures { λ r. ⌜ r ≡ registerAt self at ⌝ }
     {
+        let first = self.external1;
+        let second = self.external2;
         match at {
             0 => volts(self.sum),
             1 => amps(self.current),
-            3 => average(self.external1, self.external2),
+            3 => average(first, second),
             13 => cells::millivolts(self.highest),
             14 => cells::millivolts(self.lowest),
-            16 => highest_external(self.external1, self.external2),
-            17 => lowest_external(self.external1, self.external2),
+            16 => of_connected(
+                first,
+                second,
+                signed::to_bits(signed::higher(first, second)),
+            ),
+            17 => of_connected(first, second, signed::to_bits(signed::lower(first, second))),
             18 => signed::to_bits(self.internal),
             _ => 0,
         }
     }
-}
-
-// Each place of the slice, however long it is.
-pub fn fill(measured: Measured, slice: &mut [u16])
-    ensures { λ _. ⌜ Filled measured (now (slice .entry)) (now (slice .exit)) ⌝ }
-{
-    let mut i = 0;
-    while i < slice.len() {
-        slice[i] = measured.register(place(i));
-        i += 1;
-    }
-}
-
-// Every place from 19 on shows what 19 shows, so that sixteen bits hold any place.
-fn place(i: usize) -> u16
-    ensures { λ r. ⌜ r ≡ min i 19 ⌝ }
-{
-    numbers::lesser(i, 19) as u16
 }
 
 // Held to what sixteen bits hold: no board has cells for more than 10,485.
@@ -86,20 +108,6 @@ fn average(first: i16, second: i16) -> u16
     ensures { λ r. ⌜ r ≡ bitsOf (averageOf first second) ⌝ }
 {
     let both = half_of_sum(signed::to_bits(first), signed::to_bits(second));
-    of_connected(first, second, both)
-}
-
-fn highest_external(first: i16, second: i16) -> u16
-    ensures { λ r. ⌜ r ≡ bitsOf (highestOf first second) ⌝ }
-{
-    let both = signed::to_bits(signed::higher(first, second));
-    of_connected(first, second, both)
-}
-
-fn lowest_external(first: i16, second: i16) -> u16
-    ensures { λ r. ⌜ r ≡ bitsOf (lowestOf first second) ⌝ }
-{
-    let both = signed::to_bits(signed::lower(first, second));
     of_connected(first, second, both)
 }
 

@@ -22,7 +22,7 @@ use Rattle.refusals.specs.Refusals.{first}
 use Rattle.events.specs.declared.Event.{Event}
 use Rattle.events.specs.declared.Events.{Events}
 use Rattle.events.specs.Events.{capacity, noEvent, latest, keptCount, keptOf, placed}
-use Rattle.events.specs.Area.{areaLength, noArea, neitherArea, recordOf, noRecord, used, savedOf, areaOf, saveRows, Saves}
+use Rattle.events.specs.Area.{areaLength, neitherArea, recordOf, noRecord, used, savedOf, areaOf, saveRows, Saves}
 use Rattle.events.specs.Area.{recordedNumbers, isIn, isRecorded, recordsAt, recordsIn, usedOf, parted, neverRecorded, recordRows}
 use Rattle.events.specs.Area.{loadRows, listOf, eventsIn}
 
@@ -104,8 +104,7 @@ all-put {e} {l₀} {l} {i} p m k h =
           p .put
           ∙ ap₂ (λ (a : List Event) (b : List ℕ). each recordOf a ++ b) (take-all i (savedOf e) (omega arith))
           (drop-of-length-le l₀ {i = 4 * i} (omega arith))
-          ∙ append-nil (areaOf e)
-          ∙ ap (λ (n : ℕ). cond (noArea n) l₀ (areaOf e)) (sym k);
+          ∙ append-nil (areaOf e);
     }
 
 -- ---- records read by their place

@@ -59,7 +59,7 @@ saveRows n = (WrongArea, noArea n) ∷ []
 
 pub record Saves (e : Events) (before : List ℕ) (outcome : Outcome) (after : List ℕ) : Type 0 where
   pub outcome-is : outcome ≡ first (saveRows (length before))
-  pub area : after ≡ cond (noArea (length before)) before (areaOf e)
+  pub area : after ≡ cond (isDone outcome) (areaOf e) before
 
 -- ---- loading
 

@@ -58,7 +58,7 @@ use Rattle.receiver.specs.Receiver.{noBytes, heldOf, holding, isHeld, skips, wi
 use Rattle.receiver.specs.Heard.{begun}
 use Rattle.receiver.proofs.Heard.{held, ours}
 use Rattle.board.proofs.Account.Calls.{heard-more}
-use Rattle.board.specs.Calls.{Call, tick, frame, handover, offer, fetch, save, load, shape}
+use Rattle.board.specs.Calls.{Call, tick, frame, handover, offer, fetch, save, load, cabinet, shape}
 use Rattle.board.specs.Changes.{askedDeeds}
 use Rattle.board.specs.Calls.{letsGo, boardBy, outcomeIn, boardAfter}
 use Rattle.board.specs.Handover.{handedOver}
@@ -142,6 +142,7 @@ TypedCall handover = Unit {0}
 TypedCall (offer bytes) = All (λ byte. byte ≤ 255) bytes
 TypedCall (fetch room) = Unit {0}
 TypedCall (save n) = Unit {0}
+TypedCall (cabinet n) = Unit {0}
 TypedCall (load area) = All (λ byte. byte ≤ 255) area
 
 abbrev pub Typed : List Call → Type 0
@@ -224,6 +225,7 @@ module _ (cells perKm : ℕ) where
       let s = heldIn (boardAt cells perKm h) in
       ((tt, tt, tt), asked-typed s (subst⁻¹ Bytes (held (heardAt h)) (all-begun (heardAt h) p)) (requestOf s))
   typed-deeds h (save n) t p = tt
+  typed-deeds h (cabinet n) t p = tt
   typed-deeds h (load area) t p = ((tt, tt, tt), tt)
 
   still-bytes : (d : Deed) (k : List Deed) → TypedDeed d → Bytes (heardAt k) → Bytes (heardAt (d ∷ k))
@@ -553,6 +555,7 @@ done-in-room b handover t i = none-in-room
 done-in-room b (offer bytes) t i = offer-in-room bytes (b .hire .receiver) t i
 done-in-room b (fetch room) t i = none-in-room
 done-in-room b (save n) t i = i
+done-in-room b (cabinet n) t i = i
 done-in-room b (load area) t i = i
 
 call-in-room : (b : Board) (c : Call) → TypedCall c → BoardInRoom b → BoardInRoom (boardAfter b c)

@@ -15,3 +15,4 @@ pub mod SerialLine
 pub mod SavedEvents
 pub mod Payloads
 pub mod Why
+pub mod EqualReadings

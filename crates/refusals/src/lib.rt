@@ -23,6 +23,7 @@ pub enum Refusal {
     NeverRecorded, // an event number that the board never records
     BadRecord, // a bad record of a recording
     CutRecord, // a cut last record
+    WrongSlice, // not of a cabinet's twenty registers
 }
 
 // What a refusal leaves in a lent reply buffer: zeros alone, or a NACK with its error, and then zeros.
@@ -93,6 +94,7 @@ impl Refusal {
             Refusal::NeverRecorded => 33,
             Refusal::BadRecord => 61,
             Refusal::CutRecord => 62,
+            Refusal::WrongSlice => 71,
         }
     }
 
@@ -129,6 +131,7 @@ impl Refusal {
             Refusal::NeverRecorded => Left::Zeros,
             Refusal::BadRecord => Left::Zeros,
             Refusal::CutRecord => Left::Zeros,
+            Refusal::WrongSlice => Left::Zeros,
         }
     }
 }

@@ -1,6 +1,8 @@
 // A line into the call that it asks for.
+ghost use Prim.Native.Nat.{_≤_};
 use numbers::lesser;
 use readings::Readings;
+use text::Figure;
 use text::Series;
 use text::after_word;
 use text::bytes;
@@ -18,6 +20,8 @@ pub(crate) const MOST_CELLS: usize = 32;
 
 pub(crate) const MOST_ROOM: usize = 600;
 
+pub(crate) const MOST_REGISTERS: usize = 40;
+
 const COMMENT: u8 = b'#';
 
 // What a line asks for; the bytes and the cells stand beside it, `count` of them.
@@ -31,6 +35,7 @@ pub(crate) enum Call {
     Fetch { room: usize },
     Save { length: usize },
     Load { count: usize },
+    Cabinet { length: usize },
     Handover,
     Crc(u16),
     Register(u16),
@@ -79,7 +84,7 @@ fn named_call(line: &[u8], at: usize, request: &mut [u8], voltages: &mut [u16]) 
     rarer_call(line, at, request)
 }
 
-// The pack's memory, and what is no call of the board.
+// The pack's memory, a partner's cabinet, and what is no call of the board.
 fn rarer_call(line: &[u8], at: usize, request: &mut [u8]) -> Call {
     let save = after_word(line, at, b"save");
     if 0 < save {
@@ -88,6 +93,10 @@ fn rarer_call(line: &[u8], at: usize, request: &mut [u8]) -> Call {
     let load = after_word(line, at, b"load");
     if 0 < load {
         return load_call(line, load, request);
+    }
+    let cabinet = after_word(line, at, b"cabinet");
+    if 0 < cabinet {
+        return cabinet_call(line, cabinet);
     }
     let crc = after_word(line, at, b"crc");
     if 0 < crc {
@@ -165,8 +174,8 @@ fn offer_call(line: &[u8], from: usize, request: &mut [u8]) -> Call {
 }
 
 fn fetch_call(line: &[u8], from: usize) -> Call {
-    let room = number(line, from, MOST_ROOM as u32);
-    if room.good & is_last(line, room.next) {
+    let room = only_number(line, from, MOST_ROOM as u32);
+    if room.good {
         return Call::Fetch {
             room: room.value as usize,
         };
@@ -175,9 +184,19 @@ fn fetch_call(line: &[u8], from: usize) -> Call {
 }
 
 fn save_call(line: &[u8], from: usize) -> Call {
-    let length = number(line, from, MOST_ROOM as u32);
-    if length.good & is_last(line, length.next) {
+    let length = only_number(line, from, MOST_ROOM as u32);
+    if length.good {
         return Call::Save {
+            length: length.value as usize,
+        };
+    }
+    Call::Wrong
+}
+
+fn cabinet_call(line: &[u8], from: usize) -> Call {
+    let length = only_number(line, from, MOST_REGISTERS as u32);
+    if length.good {
+        return Call::Cabinet {
             length: length.value as usize,
         };
     }
@@ -210,11 +229,20 @@ fn crc_call(line: &[u8], from: usize, request: &mut [u8]) -> Call {
 }
 
 fn register_call(line: &[u8], from: usize) -> Call {
-    let at = number(line, from, 65535);
-    if at.good & is_last(line, at.next) {
+    let at = only_number(line, from, 65535);
+    if at.good {
         return Call::Register(at.value as u16);
     }
     Call::Wrong
+}
+
+// The next word, which has to be the last, as a number from 0 to `most`.
+fn only_number(line: &[u8], from: usize, most: u32) -> Figure
+    ensures { λ r. ⌜ r .value ≤ most ⌝ }
+{
+    let mut figure = number(line, from, most);
+    figure.good = figure.good & is_last(line, figure.next);
+    figure
 }
 
 // The temperature that `signed_number` told as 32768 more.

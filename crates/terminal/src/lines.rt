@@ -38,6 +38,18 @@ pub(crate) fn put_saved(out: &mut [u8], at: usize, state: State, area: &[u8]) ->
     put_end(out, bytes)
 }
 
+// Every register of the slice, with a space before each.
+pub(crate) fn put_slice(out: &mut [u8], at: usize, state: State, slice: &[u16]) -> usize {
+    let mut next = put_state(out, at, state);
+    let mut i = 0;
+    while i < slice.len() {
+        next = put(out, next, SPACE);
+        next = put_word(out, next, slice[i]);
+        i += 1;
+    }
+    put_end(out, next)
+}
+
 pub(crate) fn put_heard(out: &mut [u8], at: usize, state: State, taken: usize) -> usize {
     let next = put_state(out, at, state);
     let space = put(out, next, SPACE);

@@ -1,5 +1,6 @@
 // A call that is made on the board, and its answer, put behind those that wait.
 use crate::calls::Call;
+use crate::calls::MOST_REGISTERS;
 use crate::calls::MOST_ROOM;
 use crate::lines::State;
 use crate::lines::put_crc;
@@ -8,6 +9,7 @@ use crate::lines::put_mark;
 use crate::lines::put_replied;
 use crate::lines::put_saved;
 use crate::lines::put_shown;
+use crate::lines::put_slice;
 use crate::lines::put_told;
 use board::Answer;
 use board::Board;
@@ -15,8 +17,10 @@ use board::Heard;
 use numbers::lesser;
 use refusals::Outcome;
 
-// What a reply buffer or an area holds before a call, so that a byte that the call leaves alone shows.
+// What a reply buffer, an area or a slice holds before a call, so that what the call leaves alone shows.
 const FILLING: u8 = 0x5A;
+
+const SLICE_FILLING: u16 = 0x5A5A;
 
 // The board after a line, and how many bytes of answers wait.
 pub(crate) struct Turn {
@@ -57,6 +61,7 @@ pub(crate) fn answered(
             let length = lesser(count, request.len());
             told(board.load(&request[0..length]), out, said)
         }
+        Call::Cabinet { length } => measured(board, length, out, said),
         Call::Handover => told(board.handover(), out, said),
         Call::Crc(crc) => after(board, put_crc(out, said, crc)),
         Call::Register(at) => shown(board, at, out, said),
@@ -73,7 +78,7 @@ fn told(answer: Answer, out: &mut [u8], said: usize) -> Turn {
     after(answer.board, put_told(out, said, state))
 }
 
-// A frame, a fetch, a save and a register read the board in memory. Each has a function of its own, which copies it there for its
+// A frame, a fetch, a save, a cabinet's call and a register read the board in memory. Each has a function of its own, which copies it there for its
 // own lines; in the match above every line would copy it.
 fn framed(board: Board, request: &[u8], reply: &mut [u8], out: &mut [u8], said: usize) -> Turn {
     let answer = board.frame(request, reply);
@@ -106,6 +111,19 @@ fn saved_into(board: Board, area: &mut [u8], out: &mut [u8], said: usize) -> Tur
     let outcome = answer.outcome;
     let state = state_of(answer.board, outcome);
     after(answer.board, put_saved(out, said, state, area))
+}
+
+fn measured(board: Board, length: usize, out: &mut [u8], said: usize) -> Turn {
+    let mut slice = [SLICE_FILLING; MOST_REGISTERS];
+    let lent = lesser(length, MOST_REGISTERS);
+    measured_into(board, &mut slice[0..lent], out, said)
+}
+
+fn measured_into(board: Board, slice: &mut [u16], out: &mut [u8], said: usize) -> Turn {
+    let answer = board.cabinet(slice);
+    let outcome = answer.outcome;
+    let state = state_of(answer.board, outcome);
+    after(answer.board, put_slice(out, said, state, slice))
 }
 
 fn heard(heard: Heard, out: &mut [u8], said: usize) -> Turn {

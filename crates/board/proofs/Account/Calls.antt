@@ -44,7 +44,7 @@ use Rattle.board.specs.Line.{heldIn, letGo}
 use Rattle.board.specs.Tick.{tickedOf}
 use Rattle.board.specs.Handover.{handedOver}
 use Rattle.board.specs.Changes.{changedBy, askedDeeds}
-use Rattle.board.specs.Calls.{Call, tick, frame, handover, offer, fetch, save, load}
+use Rattle.board.specs.Calls.{Call, tick, frame, handover, offer, fetch, save, load, cabinet}
 use Rattle.board.specs.Calls.{frameRows, shape, letsGo, boardBy, boardAfter}
 use Rattle.board.specs.Calls.{step}
 use Rattle.board.specs.Account.{Deed, took, wrote, cleared, forgot, sent, handed, heard, fetched, loaded, drops, sensedOf, settingsAt}
@@ -216,6 +216,7 @@ module _ (cells perKm : ℕ) where
         ∙ fetched-goes (askedDeeds (heldIn before) (requestOf (heldIn before)) ++ h)
     goes (save n) e = refl
     goes (load area) e = loaded-goes h (eventsIn area) (few-events area)
+    goes (cabinet n) e = refl
 
     called : (c : Call) → boardAfter before c ≡ boardAt cells perKm (calling cells perKm h c)
     unfolding boardBy calling

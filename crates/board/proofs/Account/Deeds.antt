@@ -28,7 +28,7 @@ use Rattle.board.specs.declared.Board.{Board}
 use Rattle.board.specs.Changes.{askedDeeds}
 use Rattle.board.specs.Line.{heldIn, holds}
 use Rattle.board.specs.Promises.{requestOutcome}
-use Rattle.board.specs.Calls.{Call, tick, frame, handover, offer, fetch, save, load}
+use Rattle.board.specs.Calls.{Call, tick, frame, handover, offer, fetch, save, load, cabinet}
 use Rattle.board.specs.Calls.{frameRows, shape, letsGo}
 use Rattle.board.specs.Account.{Deed, took, wrote, cleared, forgot, sent, handed, heard, fetched, loaded, row, settingsAt, boardAt}
 use Rattle.board.specs.Account.{outcomeAt, historyBy, calling, deedsOf}
@@ -93,6 +93,7 @@ module _ (cells perKm : ℕ) where
     done-may (offer bytes) u e = (tt, tt)
     done-may (fetch room) u e = (tt, rows-may (heldIn b) (off NoFrameHeld _ _ (off NoRoom _ _ e .1) .1))
     done-may (save n) u e = tt
+    done-may (cabinet n) u e = tt
     done-may (load area) u e =
         let e₁ = off WrongArea _ _ e .1 in
         let e₂ = off UsedAfterUnused _ _ e₁ .1 in

@@ -127,7 +127,7 @@ demand3 cells perKm xs ys zs (inr e) = same cells perKm xs ys e zs
 
 -- every board that meets demand 2 answers as ours does
 module _ (B : Behaviour) (meets : Demand2 B) where
-  alike : (cells perKm : ℕ) (xs zs : List Call)
+  pub alike : (cells perKm : ℕ) (xs zs : List Call)
       → answersIn B (afterIn B (B .start cells perKm) xs) zs ≡ answersIn board (afterIn board (startBoard cells perKm) xs) zs
   alike cells perKm xs zs =
       sym (answers-after B (B .start cells perKm) xs zs)

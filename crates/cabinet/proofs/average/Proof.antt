@@ -36,7 +36,7 @@ returns c =
       toZ-ofZ (start .fits .second),
       half-by-bits a b (start .fits .first .sfits) (start .fits .second .sfits),
     )
-    (bits-of-connected (λ a b. half (a +ℤ b)) a b)
+    (bits-of-connected a b (half (a +ℤ b)))
 
 pub average-spec : {M : Type 1} → statement M
 average-spec =

@@ -1,7 +1,7 @@
 -- Each turn puts one record more. Assumes nothing.
 use Prim.Native.Nat.{_-_, _≤_}
 use lib.ListN.{length}
-use mathlib.Core.Path.{_≡_}
+use mathlib.Core.Path.{_≡_, refl}
 use native.Mathlib.Omega.{arith}
 use borrow.Author.Tests.{ne-eqb}
 use Rattle.laws.proofs.Shift.{length-from}
@@ -22,7 +22,7 @@ abbrev μ-loop : tie.MeasureT-loop
 
 returns : tie.Need-returns Inv-loop μ-loop
 unfolding first
-returns c = record { outcome-is = rw (ne-eqb _ _ (c .if1 .taken)); area = rw (ne-eqb _ _ (c .if1 .taken)) }
+returns c = record { outcome-is = rw (ne-eqb _ _ (c .if1 .taken)); area = refl }
 
 loop-holds : tie.Need-loop-holds Inv-loop μ-loop
 loop-holds c =
