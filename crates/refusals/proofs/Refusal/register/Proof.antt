@@ -15,6 +15,7 @@ use Rattle.refusals.specs.declared.Refusal.the-variants.{NoRoom, Foreign
 use Rattle.refusals.specs.declared.Refusal.the-variants.{OutOfRange, OutOfOrder, FrameHeld, NoFrameHeld}
 use Rattle.refusals.specs.declared.Refusal.the-variants.{WrongCells, WrongCurrent, NoInternal, WrongPulses, NoBoard, WrongArea}
 use Rattle.refusals.specs.declared.Refusal.the-variants.{UsedAfterUnused, NeverRecorded, BadRecord, CutRecord, WrongSlice}
+use Rattle.refusals.specs.declared.Refusal.the-variants.{CutBill, PastTotal, WrongRecord}
 use Rattle.refusals.specs.Refusals.{refusalRegister}
 use Rattle.refusals.proofs.Refusal.{the-type}
 use Rattle.refusals.proofs.Refusal.register.Statement.{statement}
@@ -43,6 +44,9 @@ none NeverRecorded e = refl
 none BadRecord e = refl
 none CutRecord e = refl
 none WrongSlice e = refl
+none CutBill e = refl
+none PastTotal e = refl
+none WrongRecord e = refl
 
 others : (ks : List ℕ) (k n : ℕ) → OneOf ks n → T (not (hasKey ks k)) → eqb n k ≡ false
 others ks k n o h = ne-eqb n k (λ e. miss ks k h (rw e at o))
