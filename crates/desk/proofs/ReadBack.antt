@@ -52,7 +52,4 @@ module _ (r : Record) where
 
   -- so what is put reads back
   pub put-back : {before after : List ℕ} → Puts r before Done after → recordOf after ≡ r
-  put-back {before} p =
-      ap recordOf (p .bytes ∙ ap (λ (o : Outcome). cond (isDone o) (recordBytes r) before) (sym (p .outcome-is))
-      ∙ sym (append-nil (recordBytes r)))
-      ∙ record-back []
+  put-back p = ap recordOf (p .bytes ∙ sym (append-nil (recordBytes r))) ∙ record-back []

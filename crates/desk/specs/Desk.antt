@@ -42,4 +42,4 @@ recordRows n = (WrongRecord, not (eqb n recordLength)) ∷ []
 -- what is left in the lent bytes: the record, or where it is refused nothing written
 pub record Puts (r : Record) (before : List ℕ) (outcome : Outcome) (after : List ℕ) : Type 0 where
   pub outcome-is : outcome ≡ first (recordRows (length before))
-  pub bytes : after ≡ cond (isDone (first (recordRows (length before)))) (recordBytes r) before
+  pub bytes : after ≡ cond (isDone outcome) (recordBytes r) before

@@ -11,7 +11,7 @@ use Rattle.desk.proofs.Record.put.Tie as tie
 
 returns : tie.Need-returns
 unfolding first
-returns c = record { outcome-is = rw (ne-eqb _ _ (c .if1 .taken)); bytes = rw (ne-eqb _ _ (c .if1 .taken)) }
+returns c = record { outcome-is = rw (ne-eqb _ _ (c .if1 .taken)); bytes = refl }
 
 put-low-first-32-requires : tie.Need-put-low-first-32-requires
 put-low-first-32-requires c κs = search needs
@@ -47,7 +47,7 @@ returns-2 c =
     let two = join-at (pack .put-low-first-32 .ensures) (seconds .put-low-first-322 .ensures) refl in
     let four = join-at (join-at two (positive .put-low-first-64 .ensures) refl) (negative .put-low-first-642 .ensures) refl in
     let six = join-at (join-at four (distance .put-low-first-323 .ensures) refl) (latchings .put-low-first-324 .ensures) refl in
-    record { outcome-is = rw long; bytes = rw long (whole six long) }
+    record { outcome-is = rw long; bytes = whole six long }
 
 pub put-spec : {M : Type 1} → statement M
 put-spec =
