@@ -85,7 +85,7 @@ returns-2 c =
     let tested = else1 .before in
     let (some, is) = some-board _ (tested .before .outcome .ensures) (tested .is-done .ensures) (else1 .if1 .left) in
     not-handed some (rw (ended .ended .ensures) at (put .put .ensures))
-        (sym (tested2 .is-done2 .ensures) ∙ not-true-false _ (c .before .if2 .taken)) (c .with-outcome2 .ensures)
+    (sym (tested2 .is-done2 .ensures) ∙ not-true-false _ (c .before .if2 .taken)) (c .with-outcome2 .ensures)
 
 new-requires : tie.Need-new-requires
 new-requires c κs = search needs
@@ -110,8 +110,8 @@ returns-3 c =
     let tested = else1 .before in
     let (some, is) = some-board _ (tested .before .outcome .ensures) (tested .is-done .ensures) (else1 .if1 .left) in
     handed some (rw (ended .ended .ensures) at (put .put .ensures))
-        (sym (tested2 .is-done2 .ensures) ∙ not-false-true _ (else2 .if2 .left))
-        (rw (c .before .with-hire .ensures, new .new .ensures) at (c .with-outcome3 .ensures))
+    (sym (tested2 .is-done2 .ensures) ∙ not-false-true _ (else2 .if2 .left))
+    (rw (c .before .with-hire .ensures, new .new .ensures) at (c .with-outcome3 .ensures))
 
 pub handover-spec : {M : Type 1} → statement M
 handover-spec =
