@@ -14,23 +14,15 @@ use Rattle.refusals.specs.Refusals.{isDone, first}
 use Rattle.desk.specs.Desk.{recordLength, recordOf}
 use Rattle.totals.specs.declared.Totals.{Totals}
 use Rattle.totals.specs.declared.Billed.{Billed}
-use Rattle.totals.specs.Totals.{takenOf, billedOf}
+use Rattle.totals.specs.Totals.{takenOf, billedOf, soFar, followedBy}
 use Rattle.totals.proofs.Records.{firstTaken, billed-short, billed-refused, billed-taken}
 
 -- ---- what is stated
 
--- totals so far, and nothing refused
-abbrev pub soFar : Totals → Billed
-soFar t = record { outcome = Done; totals = t }
-
--- bytes after others: they are not taken where those before are refused
-abbrev pub onFrom : Billed → List ℕ → Billed
-onFrom b s = cond (isDone (b .outcome)) (billedOf (b .totals) s) b
-
 -- one block after the other
 abbrev pub inBlocks : Billed → List (List ℕ) → Billed
 inBlocks b [] = b
-inBlocks b (block ∷ more) = inBlocks (onFrom b block) more
+inBlocks b (block ∷ more) = inBlocks (followedBy b block) more
 
 -- all but the last are of whole records
 pub data Blocks : List (List ℕ) → Type 0 where
@@ -48,14 +40,14 @@ empty : (s : List ℕ) → length s ≤ 0 → s ≡ []
 empty [] h = refl
 empty (x ∷ s) h = absurd (omega arith)
 
-stays : (b : Billed) (s : List ℕ) → isDone (b .outcome) ≡ false → onFrom b s ≡ b
+stays : (b : Billed) (s : List ℕ) → isDone (b .outcome) ≡ false → followedBy b s ≡ b
 stays b s e = rw e refl
 
-records-then : (n : ℕ) (t : Totals) (s rest : List ℕ) → length s ≡ recordLength * n → billedOf t (s ++ rest) ≡ onFrom (billedOf t s) rest
+records-then : (n : ℕ) (t : Totals) (s rest : List ℕ) → length s ≡ recordLength * n → billedOf t (s ++ rest) ≡ followedBy (billedOf t s) rest
 records-then zero t s rest h =
     let e = empty s (omega arith) in
     ap (λ (x : List ℕ). billedOf t (x ++ rest)) e
-    ∙ ap (λ (b : Billed). onFrom b rest) (sym (ap (billedOf t) e ∙ no-bytes t))
+    ∙ ap (λ (b : Billed). followedBy b rest) (sym (ap (billedOf t) e ∙ no-bytes t))
 records-then (suc n) t s rest h =
     go (isDone (firstTaken t s .outcome)) refl (records-then n (firstTaken t s .totals) (drop recordLength s) rest)
   where
@@ -71,21 +63,21 @@ records-then (suc n) t s rest h =
     go : (b : Bool) → isDone (firstTaken t s .outcome) ≡ b
         → (length (drop recordLength s) ≡ recordLength * n
         → billedOf (firstTaken t s .totals) (drop recordLength s ++ rest)
-        ≡ onFrom (billedOf (firstTaken t s .totals) (drop recordLength s)) rest)
-        → billedOf t (s ++ rest) ≡ onFrom (billedOf t s) rest
+        ≡ followedBy (billedOf (firstTaken t s .totals) (drop recordLength s)) rest)
+        → billedOf t (s ++ rest) ≡ followedBy (billedOf t s) rest
     go true e i =
         billed-taken t (s ++ rest) longer (ap (λ (b : Billed). isDone (b .outcome)) same-first ∙ e)
         ∙ ap (λ (b : Billed). billedOf (b .totals) (drop recordLength (s ++ rest))) same-first
         ∙ ap (billedOf (firstTaken t s .totals)) (drop-append-le recordLength s rest long)
         ∙ i (simp length-drop (omega arith))
-        ∙ ap (λ (b : Billed). onFrom b rest) (sym (billed-taken t s long e))
+        ∙ ap (λ (b : Billed). followedBy b rest) (sym (billed-taken t s long e))
     go false e i =
         billed-refused t (s ++ rest) longer (ap (λ (b : Billed). isDone (b .outcome)) same-first ∙ e)
         ∙ same-first
         ∙ sym (stays (firstTaken t s) rest e)
-        ∙ ap (λ (b : Billed). onFrom b rest) (sym (billed-refused t s long e))
+        ∙ ap (λ (b : Billed). followedBy b rest) (sym (billed-refused t s long e))
 
-pub two-pieces : (t : Totals) (s rest : List ℕ) → length s % recordLength ≡ 0 → billedOf t (s ++ rest) ≡ onFrom (billedOf t s) rest
+pub two-pieces : (t : Totals) (s rest : List ℕ) → length s % recordLength ≡ 0 → billedOf t (s ++ rest) ≡ followedBy (billedOf t s) rest
 two-pieces t s rest h = records-then (length s / recordLength) t s rest (omega arith)
 
 -- ---- the theorem
@@ -103,10 +95,10 @@ in-blocks (whole {block} {more} h rest) t =
     ended b (x ∷ bs) e = ap (λ (b : Billed). inBlocks b bs) (stays b x e) ∙ ended b bs e
 
     go : (b : Billed) → ((u : Totals) → inBlocks (soFar u) more ≡ billedOf u (flatten more))
-        → inBlocks b more ≡ onFrom b (flatten more)
+        → inBlocks b more ≡ followedBy b (flatten more)
     go b i = by (b .outcome) (b .totals)
       where
         by : (o : Outcome) (u : Totals)
-            → inBlocks (record { outcome = o; totals = u }) more ≡ onFrom (record { outcome = o; totals = u }) (flatten more)
+            → inBlocks (record { outcome = o; totals = u }) more ≡ followedBy (record { outcome = o; totals = u }) (flatten more)
         by Done u = i u
         by (Refused refusal) u = ended (record { outcome = Refused refusal; totals = u }) more refl

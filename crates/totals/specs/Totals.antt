@@ -9,6 +9,7 @@ use lib.ListN.{length, take, drop}
 use Rattle.refusals.specs.declared.Refusal.{Refusal}
 use Rattle.refusals.specs.declared.Refusal.the-variants.{CutBill, PastTotal}
 use Rattle.refusals.specs.declared.Outcome.{Outcome}
+use Rattle.refusals.specs.declared.Outcome.the-variants.{Done}
 use Rattle.refusals.specs.Refusals.{isDone, first}
 use Rattle.desk.specs.declared.Record.{Record}
 use Rattle.desk.specs.Desk.{recordLength, recordOf}
@@ -82,3 +83,13 @@ inOrder t (r ∷ rs) end = cond (isDone (takenOf t r .outcome)) (inOrder (takenO
 -- what bytes come to after such totals
 unfoldable pub billedOf : Totals → List ℕ → Billed
 billedOf t s = inOrder t (recordsOf s) (first (cutRows (length s)))
+
+-- ---- bytes in parts
+
+-- totals so far, and nothing refused
+abbrev pub soFar : Totals → Billed
+soFar t = record { outcome = Done; totals = t }
+
+-- with the bytes that follow: where those before are refused, what they came to
+abbrev pub followedBy : Billed → List ℕ → Billed
+followedBy b s = cond (isDone (b .outcome)) (billedOf (b .totals) s) b

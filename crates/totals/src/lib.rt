@@ -2,8 +2,8 @@
 ghost use mathlib.Core.Path.{_≡_};
 ghost use Prim.Native.Nat.{_+_};
 ghost use lib.Dec.{ltb};
-ghost use Rattle.refusals.specs.Refusals.{first};
-ghost use Rattle.totals.specs.Totals.{most, noTotals, withRecord, isPast, Fits, takenOf, cutRows, billedOf};
+ghost use Rattle.refusals.specs.Refusals.{isDone, first};
+ghost use Rattle.totals.specs.Totals.{most, noTotals, withRecord, isPast, Fits, takenOf, cutRows, billedOf, soFar, followedBy};
 use desk::RECORD;
 use desk::Record;
 use refusals::Outcome;
@@ -21,6 +21,36 @@ pub struct Totals {
 pub struct Billed {
     pub outcome: Outcome,
     pub totals: Totals,
+}
+
+impl Billed {
+    // Before the first byte.
+    pub fn none() -> Billed
+        ensures { λ r. ⌜ r ≡ soFar noTotals ⌝ }
+    {
+        Billed {
+            outcome: Outcome::Done,
+            totals: Totals::none(),
+        }
+    }
+
+    // Nothing is refused so far, so more may follow.
+    pub fn is_done(self) -> bool
+        ensures { λ r. ⌜ r ≡ isDone (self .outcome) ⌝ }
+    {
+        let outcome = self.outcome;
+        outcome.is_done()
+    }
+
+    // With the bytes that follow; they are not taken where those before were refused.
+    pub fn followed_by(self, bytes: &[u8]) -> Billed
+        ensures { λ r. ⌜ r ≡ followedBy self (now (bytes .entry)) ⌝ }
+    {
+        if self.is_done() {
+            return self.totals.billed(bytes);
+        }
+        self
+    }
 }
 
 impl Totals {
