@@ -1,7 +1,10 @@
 // Records of the desk on standard input; their count and exact totals on standard output, a line each, and how it went on standard error.
+ghost use Prim.Native.Nat.{_≤_};
+ghost use lib.ListN.{length};
 use desk::RECORD;
 use refusals::Outcome;
 use refusals::Refusal;
+use streams::Got;
 use streams::Waiting;
 use streams::read_full;
 use streams::tell;
@@ -17,7 +20,7 @@ const INPUT: i32 = 0;
 // Whole records, so that none stands in two blocks.
 const BLOCK: usize = 2048 * RECORD;
 
-// What the records come to, and whether no read failed before they ended or were refused.
+// What the records come to, and whether they were read up to their end or to the one that is refused.
 struct Reading {
     billed: Billed,
     is_read: bool,
@@ -44,16 +47,37 @@ fn main() {
 fn all_billed(block: &mut [u8]) -> Reading {
     let mut billed = Billed::none();
     let mut turns = u64::MAX;
-    let mut got = read_full(true, INPUT, block);
-    while 0 < turns && 0 < got.count && got.is_well {
+    let mut got = next_block(true, block);
+    while 0 < turns && 0 < got.count {
         let count = got.count;
         billed = billed.followed_by(&block[0..count]);
-        got = read_full(billed.is_done(), INPUT, block);
+        got = next_block(got.is_well & billed.is_done(), block);
         turns -= 1;
     }
     Reading {
         billed,
         is_read: got.is_well | !billed.is_done(),
+    }
+}
+
+// How many bytes stand in the block, 0 at the end. Where a read failed they are the whole records before it: none of them is cut.
+fn next_block(goes_on: bool, block: &mut [u8]) -> Got
+    ensures { λ r. ⌜ r .count ≤ length (now (block .exit)) ⌝ }
+{
+    let got = read_full(goes_on, INPUT, block);
+    Got {
+        count: billed_count(got),
+        is_well: got.is_well,
+    }
+}
+
+fn billed_count(got: Got) -> usize
+    ensures { λ r. ⌜ r ≤ got .count ⌝ }
+{
+    if got.is_well {
+        got.count
+    } else {
+        got.count - got.count % RECORD
     }
 }
 

@@ -7,8 +7,7 @@ use Rattle.bill.proofs.all_billed.Statement.{statement}
 use Rattle.bill.proofs.all_billed.Tie as tie
 
 abbrev Inv-loop : tie.InvT-loop
-Inv-loop block₀ billed₀ turns₀ got₀ block billed turns got =
-    (length block ≡ length block₀) × (got .count ≤ length block)
+Inv-loop block₀ billed₀ turns₀ got₀ block billed turns got = (length block ≡ length block₀) × (got .count ≤ length block)
 
 abbrev μ-loop : tie.MeasureT-loop
 μ-loop block₀ billed₀ turns₀ got₀ block billed turns got = turns
@@ -16,8 +15,8 @@ abbrev μ-loop : tie.MeasureT-loop
 none-requires : tie.Need-none-requires Inv-loop μ-loop
 none-requires c κs = search needs
 
-read-full-requires : tie.Need-read-full-requires Inv-loop μ-loop
-read-full-requires c κs = search needs
+next-block-requires : tie.Need-next-block-requires Inv-loop μ-loop
+next-block-requires c κs = search needs
 
 loop-holds : tie.Need-loop-holds Inv-loop μ-loop
 loop-holds c = search needs
@@ -37,8 +36,8 @@ followed-by-requires c κs = search needs
 is-done-requires : tie.Need-is-done-requires Inv-loop μ-loop
 is-done-requires c κs = search needs
 
-read-full-requires-2 : tie.Need-read-full-requires-2 Inv-loop μ-loop
-read-full-requires-2 c κs = search needs
+next-block-requires-2 : tie.Need-next-block-requires-2 Inv-loop μ-loop
+next-block-requires-2 c κs = search needs
 
 sub-turns : tie.Need-sub-turns Inv-loop μ-loop
 sub-turns c = search needs
@@ -65,14 +64,14 @@ all-billed-spec =
     Inv-loop
     μ-loop
     none-requires
-    read-full-requires
+    next-block-requires
     loop-holds
     sub-followed-by
     part-followed-by-start
     part-followed-by-end
     followed-by-requires
     is-done-requires
-    read-full-requires-2
+    next-block-requires-2
     sub-turns
     loop-less
     loop-again
