@@ -146,7 +146,7 @@ module _ (b : Board) (x : Sums) where
   unwritten false area area′ e = refl
 
   hides : (c : Call) → Hides c
-  unfolding shape steps handedOver newHire seenOf statistics.clearedAt statistics.summedOf noSums
+  unfolding shape steps handedOver newHire seenOf statistics.riddenOf statistics.countedOf statistics.summedOf statistics.clearedAt noSums
   hides (tick given r) = record {
     rows = refl;
     carries = refl;
@@ -320,13 +320,18 @@ unfolding answersIn
 both-alike b x [] = refl
 both-alike b x (c ∷ cs) = one-more b x c cs (λ y. both-alike (boardAfter b c) y cs)
 
-pub nowhere-else : (B : Behaviour) → Demand2 B → NowhereElse B
-nowhere-else B meets cells perKm xs ys zs x e =
-    let h = boardAt cells perKm (deeds cells perKm xs) in
-    let same = λ (cs : List Call). alike B meets cells perKm cs zs ∙ ap (λ (z : Board). answersIn board z zs) (account cells perKm cs) in
-    ap (butRecord h zs) (same xs) ∙ sym (both-alike h x zs)
-    ∙ ap (λ (z : Board). butRecord h zs (answersIn board z zs)) (sym e)
-    ∙ sym (ap (butRecord h zs) (same ys))
+module _ (B : Behaviour) (meets : Demand2 B) where
+  by-account : (cells perKm : ℕ) (cs zs : List Call)
+      → answersIn B (reached B cells perKm cs) zs ≡ answersIn board (boardAt cells perKm (deeds cells perKm cs)) zs
+  by-account cells perKm cs zs =
+      alike B meets cells perKm cs zs ∙ ap (λ (z : Board). answersIn board z zs) (account cells perKm cs)
+
+  pub nowhere-else : NowhereElse B
+  nowhere-else cells perKm xs ys zs x e =
+      let h = boardAt cells perKm (deeds cells perKm xs) in
+      ap (butRecord h zs) (by-account cells perKm xs zs) ∙ sym (both-alike h x zs)
+      ∙ ap (λ (z : Board). butRecord h zs (answersIn board z zs)) (sym e)
+      ∙ sym (ap (butRecord h zs) (by-account cells perKm ys zs))
 
 -- ---- a board that shows a sum: the low byte of the positive one at place 4 of every reply
 
