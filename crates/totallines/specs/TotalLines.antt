@@ -6,7 +6,6 @@ use Rattle.refusals.specs.declared.Outcome.{Outcome}
 use Rattle.refusals.specs.declared.Outcome.the-variants.{Done, Refused}
 use Rattle.refusals.specs.Refusals.{refusalNumber}
 use Rattle.text.specs.Digits.{decimalText, eachText}
-use Rattle.totals.specs.declared.Totals.{Totals}
 use Rattle.totals.specs.declared.Billed.{Billed}
 
 -- a line each, a decimal number and nothing else; it ends with LF (10)

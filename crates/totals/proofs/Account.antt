@@ -1,7 +1,7 @@
 -- The totals are the sums over the records before the first with which a total of all, from the start on, passes 64 bits; and 82 where
 -- there is such a record. Why: what is added record by record is the sum.
 -- Assumes nothing.
-use mathlib.Core.Path.{_≡_, refl, sym, ap, _∙_}
+use mathlib.Core.Path.{_≡_, sym, ap, _∙_}
 use mathlib.Core.Bool.{Bool, true, false, cond}
 use mathlib.Core.List.{List, [], _∷_}
 use Prim.Native.Nat.{ℕ, suc}

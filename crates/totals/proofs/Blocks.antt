@@ -2,7 +2,7 @@
 -- on from the totals of the one before it, until one is refused. Why: whole records at the front are taken first, one by one.
 -- Assumes nothing.
 use mathlib.Core.Path.{_≡_, refl, sym, ap, _∙_}
-use mathlib.Core.Bool.{Bool, true, false, cond}
+use mathlib.Core.Bool.{Bool, true, false}
 use mathlib.Core.List.{List, [], _∷_, _++_, flatten, append-nil}
 use Prim.Native.Nat.{ℕ, zero, suc, _*_, _/_, _%_, _≤_}
 use native.Mathlib.Omega.{arith}
@@ -43,7 +43,8 @@ empty (x ∷ s) h = absurd (omega arith)
 stays : (b : Billed) (s : List ℕ) → isDone (b .outcome) ≡ false → followedBy b s ≡ b
 stays b s e = rw e refl
 
-records-then : (n : ℕ) (t : Totals) (s rest : List ℕ) → length s ≡ recordLength * n → billedOf t (s ++ rest) ≡ followedBy (billedOf t s) rest
+records-then : (n : ℕ) (t : Totals) (s rest : List ℕ) → length s ≡ recordLength * n
+    → billedOf t (s ++ rest) ≡ followedBy (billedOf t s) rest
 records-then zero t s rest h =
     let e = empty s (omega arith) in
     ap (λ (x : List ℕ). billedOf t (x ++ rest)) e

@@ -42,7 +42,9 @@ loop-again : tie.Need-loop-again Inv-loop μ-loop
 loop-again c =
     let loop = c .before .before .before .before .before .before in
     let args = loop .before .before .before .args in
-    (search needs, search needs, each-more lineOf (args .values .now) (loop .loop .i) (loop .loop .inv .2) (c .before .before .write-line .ensures) (omega arith))
+    let so-far = loop .loop .inv .2 in
+    let one = c .before .before .write-line .ensures in
+    (search needs, search needs, each-more lineOf (args .values .now) (loop .loop .i) so-far one (omega arith))
 
 same-length : tie.Need-same-length Inv-loop μ-loop
 same-length c = search needs
