@@ -7,7 +7,7 @@
 #include <stdint.h>
 
 /* "Numbers the caller gets", 6 and 7 of W-201, 31 to 33 of W-205, 41 to 45 of W-208 in the place of 4, 61 and 62 of
-   W-211, 71 of W-213. */
+   W-211, 71 of W-213, 81 to 83 of W-214. */
 enum number {
     DONE = 0,
     ROOM_TOO_SMALL = 1,
@@ -30,7 +30,10 @@ enum number {
     OUT_OF_ORDER = 45,
     BAD_RECORD = 61,
     CUT_RECORD = 62,
-    WRONG_CABINET_SLICE = 71
+    WRONG_CABINET_SLICE = 71,
+    CUT_HIRE = 81,
+    PAST_64_BITS = 82,
+    WRONG_HIRE_RECORD = 83
 };
 
 enum {
@@ -44,6 +47,7 @@ enum {
     AREA_BYTES = EVENTS_KEPT * AREA_RECORD,
     OLD_AREA_BYTES = 192,   /* of an area that was saved before W-207 */
     CABINET_REGISTERS = 20, /* W-213 */
+    HIRE_BYTES = 32,        /* of the record that the desk gets, W-214 */
     WINDOW = 10             /* ticks that the speed looks back on */
 };
 
@@ -69,7 +73,7 @@ struct readings {
     bool charger, ignition;
 };
 
-/* "Statistics since the last clear". */
+/* "Statistics since the last clear", and W-214: "since the last statistics clear or handover". */
 struct statistics {
     uint64_t hundred_pulses;                        /* 100 times the pulses, exact */
     int32_t largest_negative, largest_positive;     /* mA, both as positive numbers */
@@ -77,6 +81,7 @@ struct statistics {
     uint16_t count[7];                              /* registers 105 to 111 */
     bool external_seen;
     int16_t coldest, hottest;                       /* external, 0.1 degrees C */
+    uint64_t positive_sum, negative_sum;            /* mA over the ticks, both as positive numbers */
     uint32_t cleared_at;
 };
 
@@ -123,7 +128,7 @@ enum number board_start(struct board *board, uint8_t cells, uint16_t pulses_per_
 enum number board_tick(struct board *board, const struct readings *readings, const uint16_t *cell, size_t cells);
 /* `which` takes the register of an OUT_OF_RANGE, and 0 otherwise. */
 enum number board_frame(struct board *board, const uint8_t *frame, size_t length, uint8_t *reply, size_t room, uint16_t *which);
-enum number board_handover(struct board *board);
+enum number board_handover(struct board *board, uint32_t pack, uint8_t *record, size_t length);
 enum number board_offer(struct board *board, const uint8_t *bytes, size_t length, size_t *taken);
 enum number board_fetch(struct board *board, uint8_t *reply, size_t room, uint16_t *which);
 enum number board_save(const struct board *board, uint8_t *area, size_t length);

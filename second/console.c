@@ -38,7 +38,7 @@ static bool take_word(struct words *words, const char *word)
    Reading: leading zeros are allowed, as many as the line holds; "-0" is 0 where "-" is allowed at all. */
 static inline bool take_number(struct words *words, int64_t least, int64_t greatest, int64_t *number)
 {
-    const int64_t furthest = INT64_C(1) << 31;    /* "current 32 bits signed": no call takes a number further from 0 */
+    const int64_t furthest = INT64_C(1) << 32;    /* "a pack number of 32 bits": no call takes a number as far from 0 */
     if (!another_word(words))
         return false;
     const char *at = words->at;
@@ -265,12 +265,20 @@ static char *call_cabinet(const struct board *board, struct words *words, char *
     return say_words(say_state(answer, number, board), registers, (size_t)length);
 }
 
+/* "`handover` alone stays: pack 0, a record of 32 bytes that is not shown"; else "every byte of the record, as it stands
+   after the call" */
 static char *call_handover(struct board *board, struct words *words, char *answer)
 {
-    if (another_word(words))
+    int64_t pack = 0, length = HIRE_BYTES;
+    uint8_t record[MOST_ROOM];
+    const bool alone = !another_word(words);
+    if (!alone && (!take_number(words, 0, UINT32_MAX, &pack) || !take_number(words, 0, MOST_ROOM, &length)
+                   || another_word(words)))
         return NULL;
-    const enum number number = board_handover(board);
-    return say_state(answer, number, board);
+    memset(record, 0x5A, (size_t)length);
+    const enum number number = board_handover(board, (uint32_t)pack, record, (size_t)length);
+    answer = say_state(answer, number, board);
+    return alone ? answer : say_bytes(answer, record, (size_t)length);
 }
 
 static char *call_crc(struct words *words, char *answer)

@@ -34,7 +34,7 @@ static bool is_around(int round, int end)
 static void print_latchings(void)
 {
     puts("# 105 (UV), 106 (OV), 109 (OT) and 111 (entries into 0x91) to 65,535 and once more:");
-    puts("# one tick latches all three, the next lets them recover and charges");
+    puts("# one tick latches all three, the next lets them recover and charges; their sum in the record is three times that");
     puts("start 4 0");
     for (int round = 1; round <= END_OF_COUNT + 1; round++) {
         puts("tick 0 600 250 250 0 1 0 29000 42000 40000 40000");
@@ -43,6 +43,7 @@ static void print_latchings(void)
             puts(read_statistics);
     }
     puts(read_all_events);
+    puts("handover 4294967295 32");
 }
 
 /* A wait is 10 ticks, so a latching comes 11 ticks after the one before; 108 counts two a round. */
@@ -99,6 +100,27 @@ static void print_event_time(void)
     say_and_read(ask_clear);
 }
 
+/* 2^32 is 4,294,967,296: the sum of 4,294 ticks at an end of the current and 967,296 mA more. */
+static void print_sum(const char *sign)
+{
+    static const char rest[] = "250 250 250 0 0 0 40000 40000 40000 40000";
+    for (int less = 1; less >= -1; less--) {
+        for (int ticks = 0; ticks < 4294; ticks++)
+            printf("tick %s1000000 %s\n", sign, rest);
+        printf("tick %s%d %s\n", sign, 967296 - less, rest);
+        puts("handover 1 32");
+    }
+}
+
+/* W-214: "both sums (64 bits each)". */
+static void print_charge(void)
+{
+    puts("# the positive and then the negative sum to 2^32 - 1, 2^32 and 2^32 + 1, each from one handover to the next");
+    puts("start 4 0");
+    print_sum("");
+    print_sum("-");
+}
+
 /* "33, an event number this board never records": each of the 256, as the number of the one used record. */
 static void print_event_numbers(void)
 {
@@ -121,6 +143,7 @@ bool print_limits(const char *name)
         {"latchings", print_latchings},
         {"currents", print_currents},
         {"distance", print_distance},
+        {"charge", print_charge},
         {"event-time", print_event_time},
         {"event-numbers", print_event_numbers}
     };

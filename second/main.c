@@ -3,7 +3,7 @@
    second --script SEED CALLS      prints a script of calls that press the limits
    second --script SEED CALLS K    the same of one kind, K ticks or frames; or of all kinds, K quick with a quarter of
                                    the frames of W-202, K memory with a twentieth of the calls of W-205, K cabinet with
-                                   a twentieth of W-213
+                                   a twentieth of W-213, K desk with a twentieth of W-214
    second --limits NAME            prints a script that drives a count to its end; limits.c has the names
    second --compare NAME SCRIPT    holds the board's answers, on standard input, to its own answers to the file SCRIPT
    second --replay                 plays a recording from standard input, and prints its events
@@ -12,8 +12,12 @@
    second --engine                 holds the board to the plain engine, on a recording of up to 600 ticks
    second --record SEED TICKS      writes a recording to standard output
    second --record SEED TICKS D    the same with one damage; record.c has the names
+   second --bill                   prints the totals of the records of hires on standard input
+   second --bills SEED N           writes N records of hires to standard output
+   second --bills SEED N D         the same with one damage, D cut or past
    Built with: cc -std=c11 -O3 -Wall -Wextra -Wpedantic -o second *.c */
 #include "console.h"
+#include "hire.h"
 #include "replay.h"
 
 #include <errno.h>
@@ -187,7 +191,8 @@ static int print_script_of(int words, char **word)
     static const struct {
         const char *name;
         enum script_kind kind;
-    } kinds[] = {{"ticks", TICKS}, {"frames", FRAMES}, {"quick", QUICK}, {"memory", MEMORY}, {"cabinet", CABINET}};
+    } kinds[] = {{"ticks", TICKS}, {"frames", FRAMES}, {"quick", QUICK}, {"memory", MEMORY}, {"cabinet", CABINET},
+                 {"desk", DESK}};
     const uint64_t seed = number_of("SEED", word[2], 0, UINT64_MAX), calls = number_of("CALLS", word[3], 1, UINT64_MAX);
     if (words == 4) {
         print_script(seed, calls, MIXED);
@@ -210,6 +215,16 @@ static int write_recording_of(int words, char **word)
     return write_recording(seed, ticks, damage) ? ALL_WELL : WRONG_WORDS;
 }
 
+/* A total goes past at the second record at the earliest. */
+static int write_hires_of(int words, char **word)
+{
+    const char *damage = words == 5 ? word[4] : NULL;
+    const uint64_t seed = number_of("SEED", word[2], 0, UINT64_MAX);
+    const uint64_t least = damage == NULL ? 0 : strcmp(damage, "past") == 0 ? 2 : 1;
+    const uint64_t hires = number_of("N", word[3], least, UINT64_MAX);
+    return write_hires(seed, hires, damage) ? ALL_WELL : WRONG_WORDS;
+}
+
 static int obey_words(int words, char **word)
 {
     const char *order = words > 1 ? word[1] : "";
@@ -223,6 +238,10 @@ static int obey_words(int words, char **word)
         return engine_agrees() ? ALL_WELL : FAILED;
     if ((words == 4 || words == 5) && strcmp(order, "--record") == 0)
         return write_recording_of(words, word);
+    if (words == 2 && strcmp(order, "--bill") == 0)
+        return bill_hires() ? ALL_WELL : FAILED;
+    if ((words == 4 || words == 5) && strcmp(order, "--bills") == 0)
+        return write_hires_of(words, word);
     if (words >= 4 && strcmp(order, "--script") == 0)
         return print_script_of(words, word);
     if (words == 3 && strcmp(order, "--limits") == 0)
@@ -242,10 +261,10 @@ int main(int words, char **word)
     const int status = obey_words(words, word);
     if (status == WRONG_WORDS)
         fputs("usage: second | second --fault 1..6\n"
-              "       second --script SEED CALLS [ticks|frames|quick|memory|cabinet]\n"
-              "       second --limits latchings|currents|distance|event-time|event-numbers\n"
+              "       second --script SEED CALLS [ticks|frames|quick|memory|cabinet|desk]\n"
+              "       second --limits latchings|currents|distance|charge|event-time|event-numbers\n"
               "       second --compare NAME SCRIPT | second --replay | second --calls | second --engine\n"
-              "       second --line [RECORDING]\n"
+              "       second --line [RECORDING] | second --bill | second --bills SEED N [cut|past]\n"
               "       second --record SEED TICKS [DAMAGE], DAMAGE one of\n"
               "       cell flag padding current internal pulses cut opening-cut opening-padding opening-count\n", stderr);
     return status == ALL_WELL && (fflush(stdout) != 0 || ferror(stdout)) ? FAILED : status;

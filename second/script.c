@@ -2,6 +2,7 @@
    values lie at, one below and one above the limits of the settings then in force. */
 #include "script.h"
 
+#include <inttypes.h>
 #include <stdarg.h>
 #include <stdio.h>
 #include <string.h>
@@ -172,7 +173,7 @@ static void press_pulses(struct script *script, struct tick *tick)
         tick->pulses = 65535;
 }
 
-/* Both externals, one or none; sums of both that are odd and negative. */
+/* Sums of two that are odd and negative, and the ends of what a tick takes. */
 static int press_cabinet_temperature(struct script *script)
 {
     static const int limits[] = {-32767, -32767, -32766, 32766, 32767, -5, -1, 0, 1};
@@ -193,7 +194,8 @@ static void press_ends_of_cells(struct script *script, struct tick *tick)
     }
 }
 
-/* "rounded toward zero and held to -32768 to 32767": in 10 mA, and it is held from 327,680 and from -327,690 mA on. */
+/* "rounded toward zero and held to -32768 to 32767": in 10 mA, and it is held from 327,680 and from -327,690 mA on.
+   Both externals are connected, one or none. */
 static void press_cabinet(struct script *script, struct tick *tick)
 {
     static const int limits[] = {0, 9, -9, 10, -10, 327670, 327680, -327680, -327690, 1000000, -1000000};
@@ -205,6 +207,13 @@ static void press_cabinet(struct script *script, struct tick *tick)
         tick->internal = press_cabinet_temperature(script);
     if (one_in(script, 6))
         press_ends_of_cells(script, tick);
+}
+
+/* "Sum the positive mA and the negative mA": large ones of both signs, and the least. */
+static void press_charge(struct script *script, struct tick *tick)
+{
+    static const int ends[] = {1000000, -1000000, 999999, -999999, 65536, -65536, 1, -1, 0};
+    tick->current = one_in(script, 2) ? PICK(script, ends) : between(script, -1000000, 1000000);
 }
 
 static void say_tick(struct script *script)
@@ -229,6 +238,8 @@ static void say_tick(struct script *script)
             press_pulses(script, &tick);
         if (so_many_of(script, script->mix.cabinet_ticks, 100))
             press_cabinet(script, &tick);
+        if (so_many_of(script, script->mix.charge_ticks, 100))
+            press_charge(script, &tick);
     }
     if (one_in(script, 10))
         script->charger = !script->charger;
@@ -381,6 +392,30 @@ static void say_cabinet(struct script *script)
     say(script, "cabinet %d", length);
 }
 
+/* ---- The desk ---- */
+
+static int make_hire_length(struct script *script)
+{
+    if (!one_in(script, 4))
+        return HIRE_BYTES;
+    if (one_in(script, 3))
+        return near(script, HIRE_BYTES);
+    return one_in(script, 4) ? between(script, 65, MOST_ROOM) : between(script, 0, 64);
+}
+
+/* Of either form. */
+static void say_handover(struct script *script)
+{
+    static const uint32_t packs[] = {0, 1, 255, 256, 65535, 65536, INT32_MAX, INT32_MAX + UINT32_C(1), UINT32_MAX - 1,
+                                     UINT32_MAX};
+    const uint32_t pack = one_in(script, 2) ? PICK(script, packs) : (uint32_t)draw(&script->chance);
+    const int length = make_hire_length(script);
+    if (one_in(script, 3))
+        say(script, "handover");
+    else
+        say(script, "handover %" PRIu32 " %d", pack, length);
+}
+
 /* ---- Other lines ---- */
 
 static void say_crc(struct script *script)
@@ -399,7 +434,9 @@ static void say_register(struct script *script)
 static const char *const junk[] = {
     "hello", "?", "tick", "start", "start 8", "start 8 2000 1", "start -1 2000", "start 256 2000", "start 8 65536",
     "start 8 -1", "start -0 0", "start +8 2000", "Start 8 2000", "start 8 2000.", "start  8   x", "startle 8 2000",
-    "start8 2000", "start 008 02000", "handover now", "HANDOVER", "handove", "handover\t", "\thandover", "  handover  ",
+    "start8 2000", "start 008 02000", "handover 1", "handover 1 32 1", "handover 4294967296 32", "handover -0 32",
+    "handover 42949672950 32", "handover 1 601", "handover 1 -1", "handover 0004294967295 032", "handover x 32",
+    "handover 1 x", "handover 1,32", "Handover 1 32", "handover1 32", "handover +1 32", "handover  7   32 ", "handover now", "HANDOVER", "handove", "handover\t", "\thandover", "  handover  ",
     " # no comment", "frame", "frame 601 AA 18 7F 1A", "frame -0 AA 18 7F 1A", "frame 259 A", "frame 259 AAA 18 7F 1A",
     "frame 259 GG", "frame 259 A/", "frame 259 :A", "frame 259 @A", "frame 259 A`", "frame 259 aG",
     "frame 259 AA 18 7F 1A \x01", "frame AA 18 7F 1A", "frame 0x259 AA 18 7F 1A", "frame 0259 aa 18 7f 1A",
@@ -453,7 +490,7 @@ static void say_call_without_board(struct script *script)
     const int kind = between(script, 0, 8);
     script->unstarted--;
     if (kind == 0)
-        say(script, "handover");
+        say_handover(script);
     else if (kind == 4)
         say_register(script);
     else if (kind == 1)
@@ -494,13 +531,13 @@ static void say_call(struct script *script)
         say_cabinet(script);
     } else if (kind < 12) {
         say_start(script);
-    } else if (kind < 70) {
-        say(script, "handover");
-    } else if (kind < 150) {
+    } else if (kind < 12 + script->mix.handovers) {
+        say_handover(script);
+    } else if (kind < 92 + script->mix.handovers) {
         say_crc(script);
-    } else if (kind < 250) {
+    } else if (kind < 192 + script->mix.handovers) {
         say_junk(script);
-    } else if (kind < 400) {
+    } else if (kind < 342 + script->mix.handovers) {
         say_register(script);
     } else if (kind < 2400) {
         say_offer_or_fetch(script);
@@ -524,13 +561,15 @@ static void say_call_of_one_kind(struct script *script, enum script_kind kind, u
 
 static struct mix mix_of(enum script_kind kind)
 {
-    struct mix mix = {.quick_commands = 12, .saves_and_loads = 15, .cabinets = 10, .cabinet_ticks = 3};
+    struct mix mix = {.quick_commands = 12, .saves_and_loads = 15, .cabinets = 10, .cabinet_ticks = 3, .handovers = 58,
+                      .charge_ticks = 1};
     switch (kind) {
-    case TICKS: mix.cabinet_ticks = 0; break;
-    case FRAMES: mix.cabinet_ticks = 0; break;
+    case TICKS: mix.cabinet_ticks = 0; mix.charge_ticks = 0; break;
+    case FRAMES: mix.cabinet_ticks = 0; mix.charge_ticks = 0; break;
     case QUICK: mix.quick_commands = 26; break;
     case MEMORY: mix.saves_and_loads = 52; break;
     case CABINET: mix.cabinets = 52; mix.cabinet_ticks = 50; break;
+    case DESK: mix.handovers = 520; mix.charge_ticks = 40; break;
     default: break;
     }
     return mix;

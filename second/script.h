@@ -14,6 +14,8 @@ struct mix {
     int saves_and_loads;        /* so many calls of 1,000 */
     int cabinets;               /* so many calls of 1,000 */
     int cabinet_ticks;          /* so many ticks of 100 press what a cabinet reads */
+    int handovers;              /* so many calls of 10,000 */
+    int charge_ticks;           /* so many ticks of 100 have a large current */
 };
 
 struct script {

@@ -89,7 +89,7 @@ module _ (b : Board) (r : Receiver) where
         none = λ e. e;
         done = request-changes s (requestOf s);
       }
-  same handover e = record { fetches = refl; rows = refl; lent = refl; carries = refl; held = noBytes; none = λ e. refl; done = refl }
+  same (handover number n) e = record { fetches = refl; rows = refl; lent = refl; carries = refl; held = noBytes; none = λ e. refl; done = refl }
   same (offer bytes) e = absurd (false≢true (sym e))
   same (fetch room) e = absurd (false≢true (sym e))
   same (save n) e = record { fetches = refl; rows = refl; lent = refl; carries = refl; held = r; none = λ e. e; done = refl }
@@ -181,7 +181,7 @@ all-let-go b (c ∷ cs) e = go c (shape c .fetches) refl (shape c .onLine) refl 
     go c false f false o e later = later e ∙ ap (λ (x : Board). afterIn board x (withoutLine cs)) (silent b c o)
     go (tick cells r) false f true o e later = absurd (false≢true o)
     go (frame s room) false f true o e later = absurd (false≢true o)
-    go handover false f true o e later = absurd (false≢true o)
+    go (handover number n) false f true o e later = absurd (false≢true o)
     go (offer bytes) false f true o e later = later e ∙ ap (λ (x : Board). afterIn board x (withoutLine cs)) (unheard b bytes)
     go (fetch room) false f true o e later = absurd (false≢true (sym f))
     go (save n) false f true o e later = absurd (false≢true o)

@@ -3,6 +3,8 @@
 -- Assumes nothing.
 use Rattle.laws.specs.Fold.{shifted, packed}
 use Rattle.crc.specs.Crc as crc
+use Rattle.cabinet.specs.Cabinet as cabinet
+use Rattle.desk.specs.Desk as desk
 use Rattle.events.specs.Events as events
 use Rattle.events.specs.Area as area
 use Rattle.guard.specs.Guard.{holdsOf, waitsOf, recoversOf, latchedOf, guardOf}
@@ -50,7 +52,7 @@ unfolding steps first shifted packed crc.crcOf crc.byteIn crc.times crc.shiftedO
     settings.ofKind settings.registerOf settings.registers settings.valuesOf settings.settingsOf settings.fits settings.isOut
     settings.inRange
     settings.ordered settings.judgedOf settings.putOf settings.standingOf signed.bitsOf signed.fromBits signed.degreesOf
-    statistics.distanceOf
+    statistics.distanceOf statistics.summedOf statistics.billOf desk.recordBytes cabinet.registerAt cabinet.filledOf
     statistics.countsOf statistics.temperaturesShown statistics.riddenOf statistics.countedOf statistics.clearedAt statistics.registerOf
     newHire newPack
     startOutcome startBoard laterOf statusFor readingRegister shownAt valueAt handedOver words sealed padded expectedOf addressAt allShown

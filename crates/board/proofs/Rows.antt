@@ -23,7 +23,7 @@ idle : List ℕ
 idle = 0xAA ∷ 0x18 ∷ 0x7F ∷ 0x1A ∷ []
 
 -- 21: every call of a board that is none, whatever else applies
-none : numbers 3 (tick [] noReadings ∷ frame [] 0 ∷ handover ∷ offer idle ∷ fetch 0 ∷ save 0 ∷ load [] ∷ cabinet 19 ∷ []) ≡ replicate 8 21
+none : numbers 3 (tick [] noReadings ∷ frame [] 0 ∷ handover 0 31 ∷ offer idle ∷ fetch 0 ∷ save 0 ∷ load [] ∷ cabinet 19 ∷ []) ≡ replicate 8 21
 unfolding numbers opened
 none = refl
 
@@ -37,8 +37,8 @@ held : numbers 4 (fetch 259 ∷ offer idle ∷ offer [] ∷ offer idle ∷ fetch
 unfolding numbers idle opened
 held = refl
 
--- 2 and 3 by `frame`, before what the bytes ask; 31 by a save, 71 by a cabinet's call
+-- 2 and 3 by `frame`, before what the bytes ask; 31 by a save, 71 by a cabinet's call, 83 by a handover
 others : numbers 4 (frame (0xAB ∷ 0x18 ∷ 0x00 ∷ 0x00 ∷ []) 259 ∷ frame (0xAA ∷ 0x00 ∷ 0x00 ∷ 0x00 ∷ []) 259 ∷ save 247 ∷ save 248 ∷ cabinet 19
-    ∷ cabinet 20 ∷ []) ≡ 2 ∷ 3 ∷ 31 ∷ 0 ∷ 71 ∷ 0 ∷ []
+    ∷ cabinet 20 ∷ handover 0 31 ∷ handover 0 32 ∷ []) ≡ 2 ∷ 3 ∷ 31 ∷ 0 ∷ 71 ∷ 0 ∷ 83 ∷ 0 ∷ []
 unfolding numbers opened
 others = refl

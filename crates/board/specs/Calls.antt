@@ -15,6 +15,7 @@ use Rattle.refusals.specs.declared.Outcome.the-variants.{Done, Refused}
 use Rattle.refusals.specs.Refusals.{refusalNumber, leftBy, isDone, first}
 use Rattle.events.specs.Area.{saveRows, loadRows, areaOf, eventsIn, listOf}
 use Rattle.cabinet.specs.Cabinet.{cabinetRows, filledOf}
+use Rattle.desk.specs.Desk.{recordRows, recordBytes}
 use Rattle.readings.specs.declared.Readings.{Readings}
 use Rattle.readings.specs.Readings.{tickRows}
 use Rattle.receiver.specs.Receiver.{taken, filled}
@@ -28,16 +29,16 @@ use Rattle.board.specs.State.{usable, withEvents, withReceiver, measured
 use Rattle.board.specs.Tick.{tickedOf}
 use Rattle.board.specs.Changes.{changedBy, askedDeeds}
 use Rattle.board.specs.Line.{heldIn, holds, letGo}
-use Rattle.board.specs.Handover.{handedOver}
+use Rattle.board.specs.Handover.{recordFor, handedOver}
 use Rattle.board.specs.Deeds.{Deed, took, handed, heard, fetched, loaded}
 
 -- the calls after a start: a tick (cells and the other readings), a frame (its bytes, and the length of the reply buffer that is lent), and
--- a handover; of the raw line, an offer (its bytes) and a fetch (the length of the reply buffer that is lent); of the pack's memory, a save
+-- a handover (the desk's pack number, and the length of the record that is lent); of the raw line, an offer (its bytes) and a fetch (the length of the reply buffer that is lent); of the pack's memory, a save
 -- (the length of the area that is lent) and a load (the area); for a partner's cabinet, the length of the slice that is lent
 pub data Call : Type 0 where
   tick : List ℕ → Readings → Call
   frame : List ℕ → ℕ → Call
-  handover : Call
+  handover : ℕ → ℕ → Call
   offer : List ℕ → Call
   fetch : ℕ → Call
   save : ℕ → Call
@@ -47,7 +48,7 @@ pub data Call : Type 0 where
 -- ---- the shape of a call
 
 -- what is lent, and what a call that is done leaves there: nothing; a buffer of that room for the reply to the request s, and the reply
--- before its zeros; an area or a slice, which a refused call does not write
+-- before its zeros; an area, a slice or a record, which a refused call does not write
 pub data Lent : Type 0 where
   nothingLent : Lent
   replyLent : (s : List ℕ) (room : ℕ) (reply : List ℕ) → Lent
@@ -69,14 +70,17 @@ pub record Shape : Type 0 where
   -- it answers the held frame
   pub fetches : Bool
 
--- a call that is lent nothing; one that is lent an area or a slice, and changes nothing
+-- a call that is lent nothing; one that is lent an area, a slice or a record; and one of these that changes nothing
 abbrev pub plain : (Board → List (Refusal × Bool)) → (Board → Board) → (Board → List Deed) → Shape
 plain rows done deeds =
     record { rows = rows; done = done; lent = λ b. nothingLent; carries = λ b. 0; deeds = deeds; onLine = false; fetches = false }
 
-abbrev pub writing : (Board → List (Refusal × Bool)) → (Board → List ℕ) → Shape
-writing rows area =
-    record { rows = rows; done = λ b. b; lent = λ b. areaLent (area b); carries = λ b. 0; deeds = λ b. []; onLine = false; fetches = false }
+abbrev pub writing : (Board → List (Refusal × Bool)) → (Board → List ℕ) → (Board → Board) → (Board → List Deed) → Shape
+writing rows area done deeds =
+    record { rows = rows; done = done; lent = λ b. areaLent (area b); carries = λ b. 0; deeds = deeds; onLine = false; fetches = false }
+
+abbrev pub showing : (Board → List (Refusal × Bool)) → (Board → List ℕ) → Shape
+showing rows area = writing rows area (λ b. b) (λ b. [])
 
 -- the rows of a request: those of its bytes, and of what it asks
 abbrev pub frameRows : Board → List ℕ → List (Refusal × Bool)
@@ -100,8 +104,8 @@ unfoldable pub shape : Call → Shape
 shape (tick cells r) =
     plain (λ b. tickRows (b .pack .cells) (b .pack .«per_km») (length cells) r) (λ b. tickedOf b cells r) (λ b. took cells r ∷ [])
 shape (frame s room) = answering (λ b. s) room (λ b. []) (λ b. b) [] false
--- on a usable board handover never refuses
-shape handover = plain (λ b. []) (λ b. handedOver b) (λ b. handed ∷ [])
+-- on a usable board handover refuses nothing but, by W-214 of document 02, a record not of 32 bytes
+shape (handover number n) = writing (λ b. recordRows n) (λ b. recordBytes (recordFor b number)) handedOver (λ b. handed ∷ [])
 -- 6, an offer (of no bytes too) while a frame is held
 shape (offer bytes) =
     record {
@@ -115,10 +119,10 @@ shape (offer bytes) =
     }
 -- 7, a fetch with none held, after 1, which leaves the frame held; else as the held frame, which is let go
 shape (fetch room) = answering heldIn room (λ b. (NoFrameHeld, not (holds b)) ∷ []) letGo (fetched ∷ []) true
-shape (save n) = writing (λ b. saveRows n) (λ b. areaOf (b .hire .events))
+shape (save n) = showing (λ b. saveRows n) (λ b. areaOf (b .hire .events))
 shape (load area) = plain (λ b. loadRows area) (λ b. withEvents b (listOf (eventsIn area))) (λ b. loaded (eventsIn area) ∷ [])
 -- from the readings that the board holds, and nothing else
-shape (cabinet n) = writing (λ b. cabinetRows n) (λ b. filledOf (measuredIn b) 20)
+shape (cabinet n) = showing (λ b. cabinetRows n) (λ b. filledOf (measuredIn b) 20)
 
 -- ---- one call, of its shape
 

@@ -10,6 +10,7 @@ use Rattle.refusals.specs.declared.Refusal.{Refusal}
 use Rattle.refusals.specs.declared.Refusal.the-variants.{NoFrameHeld, NoBoard}
 use Rattle.refusals.specs.declared.Outcome.the-variants.{Done, Refused}
 use Rattle.refusals.specs.Refusals.{isDone}
+use Rattle.desk.specs.Desk.{recordLength}
 use Rattle.guard.specs.Quiet.{allQuiet}
 use Rattle.pack.specs.Pack.{usableCount}
 use Rattle.requests.specs.Requests.{requestOf}
@@ -153,12 +154,29 @@ pub record SameKept (h k : List Deed) : Type 0 where
   pub waits : waitsAt h ≡ waitsAt k
   pub remembered : rememberedAt h ≡ rememberedAt k
 
--- two boards whose histories agree so: from the handover on, any equal list of calls gets equal answers, refused calls included, for ever
+-- what is seen at a handover but its record (W-214: "Demand 3 does not compare the record, only what comes after")
+abbrev pub withoutRecord : Seen → Seen
+withoutRecord a =
+    record {
+      outcome = a .outcome;
+      buffer = [];
+      carried = a .carried;
+      charge = a .charge;
+      discharge = a .discharge;
+      decision = a .decision;
+      balancing = a .balancing;
+    }
+
+-- two boards whose histories agree so: the handover, whatever pack numbers the desk gives, is alike but for its record, and from it on any
+-- equal list of calls gets equal answers, refused calls and records of later handovers included, for ever
 abbrev pub Alike : Behaviour → (List Deed → List Deed → Type 0) → Type 0
 Alike B Agree =
-    (cells perKm : ℕ) (xs ys zs : List Call)
+    (cells perKm : ℕ) (xs ys zs : List Call) (number number′ : ℕ)
     → Agree (deeds cells perKm xs) (deeds cells perKm ys)
-    → answersIn B (reached B cells perKm xs) (handover ∷ zs) ≡ answersIn B (reached B cells perKm ys) (handover ∷ zs)
+    → (withoutRecord (shown B cells perKm xs (handover number recordLength))
+    ≡ withoutRecord (shown B cells perKm ys (handover number′ recordLength)))
+    × (answersIn B (next B cells perKm xs (handover number recordLength)) zs
+    ≡ answersIn B (next B cells perKm ys (handover number′ recordLength)) zs)
 
 -- (each of these is needed, 300, both boards' ticks and the clock's tenth too: crate `facts`, Needed)
 abbrev pub Demand3 : Behaviour → Type 0

@@ -9,9 +9,12 @@ mod shown;
 mod tick;
 
 ghost use mathlib.Core.Path.{_≡_};
+ghost use lib.ListN.{length};
 ghost use Rattle.board.specs.State.{withHire};
 ghost use Rattle.board.specs.Calls.{handover};
-ghost use Rattle.board.specs.Promises.{Starts, Answers};
+ghost use Rattle.board.specs.Handover.{recordFor};
+ghost use Rattle.board.specs.Promises.{Starts, Leaves};
+use desk::Record;
 use hire::Hire;
 use pack::Pack;
 use refusals::Outcome;
@@ -44,16 +47,30 @@ impl Board {
         Board { pack, hire }.with_outcome(pack.outcome())
     }
 
-    // The desk's own call, between two riders: a new hire, and the pack as it was. On a usable board it never refuses.
-    pub fn handover(self) -> Answer
-        ensures { λ r. ⌜ Answers self handover r ⌝ }
+    // The desk's own call, between two riders: a new hire, and the pack as it was. The desk gives the pack's number and gets the record of the
+    // hire that ends; where that is refused nothing is written, and no handover is done.
+    pub fn handover(self, number: u32, bytes: &mut [u8]) -> Answer
+        ensures { λ r. ⌜ Leaves self (handover number (length (now (bytes .entry)))) (now (bytes .entry)) r (now (bytes .exit)) ⌝ }
     {
         let outcome = self.pack.outcome();
         if !outcome.is_done() {
             return self.with_outcome(outcome);
         }
+        let put = self.ended(number).put(bytes);
+        if !put.is_done() {
+            return self.with_outcome(put);
+        }
         let hire = Hire::new(self.pack.clock.seconds);
-        self.with_hire(hire).with_outcome(outcome)
+        self.with_hire(hire).with_outcome(put)
+    }
+
+    // The record of the hire as it is now.
+    fn ended(self, number: u32) -> Record
+        ensures { λ r. ⌜ r ≡ recordFor self number ⌝ }
+    {
+        self.hire
+            .statistics
+            .billed(number, self.pack.per_km, self.pack.clock.seconds)
     }
 
     // This board, and what the call came to that gives it back.

@@ -11,7 +11,7 @@ use Rattle.readings.specs.declared.Readings.{Readings}
 use Rattle.answers.specs.declared.Shown.{Shown}
 use Rattle.answers.specs.Registers.{shownAt}
 use Rattle.board.specs.declared.Board.{Board}
-use Rattle.board.specs.Calls.{Call, Seen, tick, frame}
+use Rattle.board.specs.Calls.{Call, Seen, tick, frame, handover}
 
 -- ---- ticks
 
@@ -49,6 +49,11 @@ warmed internal external1 external2 = level (readingOf (pos 0) internal external
 
 abbrev pub unplugged : ℤ
 unplugged = negsuc 32767
+
+-- ---- a handover, with pack number 0
+
+abbrev pub handing : Call
+handing = handover 0 32
 
 -- ---- frames
 

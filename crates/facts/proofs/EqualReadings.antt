@@ -24,13 +24,13 @@ use Rattle.board.specs.declared.Board.{Board}
 use Rattle.board.specs.State.{measuredIn}
 use Rattle.board.specs.Start.{startBoard}
 use Rattle.board.specs.Calls.{Call, Seen, tick, cabinet, shape, seenOf, step}
-use Rattle.board.specs.Behaviour.{Behaviour, board, afterIn, answersIn}
+use Rattle.board.specs.Behaviour.{Behaviour, board}
 use Rattle.board.specs.Account.{Deed, hands, ticking, sensedOf, sensedAt, boardAt}
 use Rattle.board.specs.Demands.{deeds, shown, Demand2}
 use Rattle.board.proofs.Opened.{accounted}
 use Rattle.board.proofs.Shape.{by-rows}
 use Rattle.board.proofs.Demands.Demand2.{account}
-use Rattle.board.proofs.Demands.Demand3.{alike}
+use Rattle.board.proofs.Demands.Demand3.{as-ours}
 
 -- ---- the statement
 
@@ -126,15 +126,10 @@ module _ (cells perKm : ℕ) (usable-count : usableCount cells ≡ true) (cs : L
       ∙ ap (slice-of n) (measured-last (each ticking (since hands h)))
 
 module _ (B : Behaviour) (meets : Demand2 B) where
-  as-ours : (cells perKm : ℕ) (cs : List Call) (c : Call) → shown B cells perKm cs c ≡ shown board cells perKm cs c
-  unfolding answersIn
-  as-ours cells perKm cs c =
-      ap (headOr (shown board cells perKm cs c)) (alike B meets cells perKm cs (c ∷ []))
-
   pub equal-slices : EqualSlices B
   equal-slices cells perKm cells′ perKm′ xs ys n u u′ e =
-      let x = as-ours cells perKm xs (cabinet n) in
-      let y = as-ours cells′ perKm′ ys (cabinet n) in
+      let x = as-ours B meets cells perKm xs (cabinet n) in
+      let y = as-ours B meets cells′ perKm′ ys (cabinet n) in
       let both = of-the-last cells perKm u xs n ∙ ap (slice-of n) (same-read e) ∙ sym (of-the-last cells′ perKm′ u′ ys n) in (
         ap (λ (a : Seen). a .outcome) x ∙ ap (λ p. p .0) both ∙ sym (ap (λ (a : Seen). a .outcome) y),
         ap (λ (a : Seen). a .buffer) x ∙ ap (λ p. p .1) both ∙ sym (ap (λ (a : Seen). a .buffer) y),
@@ -165,7 +160,7 @@ ten : List Call
 ten = replicate 10 (tick (replicate 4 0) noReadings)
 
 pub telling-fails : ¬ EqualSlices telling
-unfolding accounted ten filledOf
+unfolding accounted ten
 telling-fails h =
     let same : SameReadings (lastRead (deeds 4 2000 ten)) (lastRead (deeds 4 2000 [])) =
     record { current = refl; internal = refl; external1 = refl; external2 = refl; sum = refl; lowest = refl; highest = refl } in

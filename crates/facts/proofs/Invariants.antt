@@ -138,7 +138,7 @@ gathered-within (x ∷ xs) a b =
 abbrev pub TypedCall : Call → Type 0
 TypedCall (tick given r) = All (λ c. c ≤ 65535) given
 TypedCall (frame s room) = All (λ byte. byte ≤ 255) s
-TypedCall handover = Unit {0}
+TypedCall (handover number n) = Unit {0}
 TypedCall (offer bytes) = All (λ byte. byte ≤ 255) bytes
 TypedCall (fetch room) = Unit {0}
 TypedCall (save n) = Unit {0}
@@ -219,7 +219,7 @@ module _ (cells perKm : ℕ) where
   unfolding shape boardAt
   typed-deeds h (tick given r) t p = (((t, tt), tt, tt), tt)
   typed-deeds h (frame s room) t p = asked-typed s t (requestOf s)
-  typed-deeds h handover t p = ((tt, tt, tt), tt)
+  typed-deeds h (handover number n) t p = ((tt, tt, tt), tt)
   typed-deeds h (offer bytes) t p = ((tt, tt, all-taken (taken (boardAt cells perKm h .hire .receiver) bytes) bytes t), tt)
   typed-deeds h (fetch room) t p =
       let s = heldIn (boardAt cells perKm h) in
@@ -551,7 +551,7 @@ done-in-room : (b : Board) (c : Call) → TypedCall c → BoardInRoom b → Boar
 unfolding shape steps handedOver newHire
 done-in-room b (tick given r) t i = i
 done-in-room b (frame s room) t i = subst⁻¹ BoardInRoom (request-changes b (b .hire .receiver) s (requestOf s)) i
-done-in-room b handover t i = none-in-room
+done-in-room b (handover number n) t i = none-in-room
 done-in-room b (offer bytes) t i = offer-in-room bytes (b .hire .receiver) t i
 done-in-room b (fetch room) t i = none-in-room
 done-in-room b (save n) t i = i

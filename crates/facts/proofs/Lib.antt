@@ -16,3 +16,4 @@ pub mod SavedEvents
 pub mod Payloads
 pub mod Why
 pub mod EqualReadings
+pub mod Charge

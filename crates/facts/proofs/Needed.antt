@@ -25,8 +25,8 @@ pub needs-300 : ¬ Alike board (BothQuiet 299)
 unfolding accounted quiet
 needs-300 alike =
     let e = alike 4 2000 (longest-wait ∷ drawn ∷ replicate 299 still) (longest-wait ∷ still ∷ replicate 299 still) (still ∷ events ∷ [])
-    (record { settings = refl; ticks = refl; first = (omega arith, refl); second = (omega arith, refl) }) in
-    let z : _≡_ {A = ℕ} 8 4 = ap (byteAt 2 2) e in
+    0 0 (record { settings = refl; ticks = refl; first = (omega arith, refl); second = (omega arith, refl) }) .1 in
+    let z : _≡_ {A = ℕ} 8 4 = ap (byteAt 1 2) e in
     omega arith
 
 -- ---- both boards' ticks
@@ -40,8 +40,8 @@ quieted = (omega arith, refl)
 pub needs-both : ¬ Alike board (λ h k. (settingsAt h ≡ settingsAt k) × (countAt h ≡ countAt k) × Quieted 300 k)
 unfolding accounted
 needs-both alike =
-    let e = alike 4 2000 (replicate 299 still ++ (drawn ∷ [])) (replicate 300 still) (still ∷ []) (refl, refl, quieted) in
-    let z : false ≡ true = ap (λ (answers : List Seen). answerAt 1 answers .discharge) e in
+    let e = alike 4 2000 (replicate 299 still ++ (drawn ∷ [])) (replicate 300 still) (still ∷ []) 0 0 (refl, refl, quieted) .1 in
+    let z : false ≡ true = ap (λ (answers : List Seen). answerAt 0 answers .discharge) e in
     absurd (false≢true z)
 
 -- ---- equally many ticks
@@ -50,8 +50,8 @@ needs-both alike =
 pub needs-ticks : ¬ Alike board (λ h k. (settingsAt h ≡ settingsAt k) × Quieted 300 h × Quieted 300 k)
 unfolding accounted quiet
 needs-ticks alike =
-    let e = alike 4 2000 (replicate 300 still) (replicate 310 still) (lifetime ∷ []) (refl, quieted, (omega arith, refl)) in
-    let z : _≡_ {A = ℕ} 30 31 = ap (byteAt 1 2) e in
+    let e = alike 4 2000 (replicate 300 still) (replicate 310 still) (lifetime ∷ []) 0 0 (refl, quieted, (omega arith, refl)) .1 in
+    let z : _≡_ {A = ℕ} 30 31 = ap (byteAt 0 2) e in
     omega arith
 
 -- ---- equal settings
@@ -60,8 +60,8 @@ needs-ticks alike =
 pub needs-settings-quiet : ¬ Alike board (λ h k. (countAt h ≡ countAt k) × Quieted 300 h × Quieted 300 k)
 unfolding accounted quiet
 needs-settings-quiet alike =
-    let e = alike 4 2000 (to-800 ∷ replicate 300 still) (replicate 300 still) (read-316 ∷ []) (refl, (omega arith, refl), quieted) in
-    let z : _≡_ {A = ℕ} 0x03 0x0B = ap (byteAt 1 3) e in
+    let e = alike 4 2000 (to-800 ∷ replicate 300 still) (replicate 300 still) (read-316 ∷ []) 0 0 (refl, (omega arith, refl), quieted) .1 in
+    let z : _≡_ {A = ℕ} 0x03 0x0B = ap (byteAt 0 3) e in
     omega arith
 
 -- and the second
@@ -69,8 +69,8 @@ pub needs-settings : ¬ Alike board
     (λ h k. (clockAt h ≡ clockAt k) × (latchedAt h ≡ latchedAt k) × (waitsAt h ≡ waitsAt k) × (rememberedAt h ≡ rememberedAt k))
 unfolding accounted
 needs-settings alike =
-    let e = alike 4 2000 (to-800 ∷ []) [] (read-316 ∷ []) (refl, refl, refl, refl) in
-    let z : _≡_ {A = ℕ} 0x03 0x0B = ap (byteAt 1 3) e in
+    let e = alike 4 2000 (to-800 ∷ []) [] (read-316 ∷ []) 0 0 (refl, refl, refl, refl) .1 in
+    let z : _≡_ {A = ℕ} 0x03 0x0B = ap (byteAt 0 3) e in
     omega arith
 
 -- ---- equal clocks
@@ -81,14 +81,15 @@ pub needs-tenths : ¬ Alike board
     × (waitsAt h ≡ waitsAt k) × (rememberedAt h ≡ rememberedAt k))
 unfolding accounted
 needs-tenths alike =
-    let e = alike 4 2000 (still ∷ []) [] (replicate 9 still ++ (lifetime ∷ [])) (refl, refl, refl, refl, refl) in
-    let z : _≡_ {A = ℕ} 1 0 = ap (byteAt 10 2) e in
+    let e = alike 4 2000 (still ∷ []) [] (replicate 9 still ++ (lifetime ∷ [])) 0 0 (refl, refl, refl, refl, refl) .1 in
+    let z : _≡_ {A = ℕ} 1 0 = ap (byteAt 9 2) e in
     omega arith
 
 -- so the clock is needed whole
 pub needs-clock : ¬ Alike board
     (λ h k. (settingsAt h ≡ settingsAt k) × (latchedAt h ≡ latchedAt k) × (waitsAt h ≡ waitsAt k) × (rememberedAt h ≡ rememberedAt k))
-needs-clock alike = needs-tenths (λ cells perKm xs ys zs same. alike cells perKm xs ys zs (same .0, same .2, same .3, same .4))
+needs-clock alike =
+    needs-tenths (λ cells perKm xs ys zs number number′ same. alike cells perKm xs ys zs number number′ (same .0, same .2, same .3, same .4))
 
 -- ---- equal latched conditions
 
@@ -97,8 +98,8 @@ pub needs-latched : ¬ Alike board
     (λ h k. (settingsAt h ≡ settingsAt k) × (clockAt h ≡ clockAt k) × (waitsAt h ≡ waitsAt k) × (rememberedAt h ≡ rememberedAt k))
 unfolding accounted
 needs-latched alike =
-    let e = alike 4 2000 (warmed (pos 200) (pos 0) (pos 200) ∷ []) (still ∷ []) (still ∷ events ∷ []) (refl, refl, refl, refl) in
-    let z : _≡_ {A = ℕ} 8 4 = ap (byteAt 2 2) e in
+    let e = alike 4 2000 (warmed (pos 200) (pos 0) (pos 200) ∷ []) (still ∷ []) (still ∷ events ∷ []) 0 0 (refl, refl, refl, refl) .1 in
+    let z : _≡_ {A = ℕ} 8 4 = ap (byteAt 1 2) e in
     omega arith
 
 -- ---- equal waits
@@ -108,8 +109,8 @@ pub needs-waits : ¬ Alike board
     (λ h k. (settingsAt h ≡ settingsAt k) × (clockAt h ≡ clockAt k) × (latchedAt h ≡ latchedAt k) × (rememberedAt h ≡ rememberedAt k))
 unfolding accounted
 needs-waits alike =
-    let e = alike 4 2000 (drawn ∷ still ∷ []) (still ∷ drawn ∷ []) (replicate 49 still) (refl, refl, refl, refl) in
-    let z : true ≡ false = ap (λ (answers : List Seen). answerAt 49 answers .discharge) e in
+    let e = alike 4 2000 (drawn ∷ still ∷ []) (still ∷ drawn ∷ []) (replicate 49 still) 0 0 (refl, refl, refl, refl) .1 in
+    let z : true ≡ false = ap (λ (answers : List Seen). answerAt 48 answers .discharge) e in
     absurd (false≢true (sym z))
 
 -- ---- equal memories
@@ -120,8 +121,8 @@ pub needs-memory : ¬ Alike board
 unfolding accounted
 needs-memory alike =
     let e = alike 4 2000 (warmed (pos 600) (pos 200) (pos 200) ∷ []) (warmed (pos 600) unplugged unplugged ∷ [])
-    (warmed (pos 200) unplugged unplugged ∷ []) (refl, refl, refl, refl) in
-    let z : false ≡ true = ap (λ (answers : List Seen). answerAt 1 answers .discharge) e in
+    (warmed (pos 200) unplugged unplugged ∷ []) 0 0 (refl, refl, refl, refl) .1 in
+    let z : false ≡ true = ap (λ (answers : List Seen). answerAt 0 answers .discharge) e in
     absurd (false≢true z)
 
 -- ---- a condition latched at the handover is no hindrance

@@ -37,7 +37,7 @@ use Rattle.board.specs.State.{usable, withEvents}
 use Rattle.board.specs.Start.{startBoard}
 use Rattle.board.specs.declared.Answer.{Answer}
 use Rattle.board.specs.Line.{letGo}
-use Rattle.board.specs.Calls.{Call, Seen, frame, handover, save, load, shape, outcomeOf, boardBy, seenOf}
+use Rattle.board.specs.Calls.{Call, Seen, frame, save, load, shape, outcomeOf, boardBy, seenOf}
 use Rattle.board.specs.Calls.{outcomeIn, boardAfter, bufferAfter, answerTo, step}
 use Rattle.board.specs.Behaviour.{board, answersIn}
 use Rattle.board.specs.Demands.{deeds, reached}
@@ -49,7 +49,7 @@ use Rattle.board.proofs.Shape.{by-rows, answered, none, holds-on, unchanging}
 use Rattle.board.proofs.Account.Shown.{kept-shown}
 use Rattle.board.proofs.Demands.Demand2.{account}
 use Rattle.board.proofs.Opened.{opened}
-use Rattle.facts.proofs.Calls.{flow, events}
+use Rattle.facts.proofs.Calls.{flow, events, handing}
 use Rattle.facts.proofs.Invariants.{All, all-append, all-reversed}
 use Rattle.facts.proofs.Ticks.{fresh, after, storm, still, alternately, recorded}
 
@@ -371,7 +371,7 @@ save-marks-nothing = refl
 
 -- after a load 0x11 sends none and 0x12 all; one more is recorded, and 0x11 sends it alone; after a handover there is none
 pub load-marks-all :
-    told (answers 4 (load two ∷ new-events ∷ events ∷ flow (pos 0) 0 true ∷ new-events ∷ events ∷ handover ∷ events ∷ []))
+    told (answers 4 (load two ∷ new-events ∷ events ∷ flow (pos 0) 0 true ∷ new-events ∷ events ∷ handing ∷ events ∷ []))
     ≡ (Done, 0) ∷ (Done, 4) ∷ (Done, 12) ∷ (Done, 0) ∷ (Done, 8) ∷ (Done, 16) ∷ (Done, 0) ∷ (Done, 4) ∷ []
 unfolding opened
 load-marks-all = refl

@@ -13,7 +13,8 @@ use Rattle.receiver.specs.Receiver.{noBytes, holding}
 use Rattle.board.specs.declared.Board.{Board}
 use Rattle.board.specs.State.{withReceiver}
 use Rattle.board.specs.Start.{startBoard}
-use Rattle.board.specs.Calls.{Call, Seen, offer, fetch, handover}
+use Rattle.board.specs.Calls.{Call, Seen, offer, fetch}
+use Rattle.facts.proofs.Calls.{handing}
 use Rattle.board.specs.Behaviour.{board, answersIn}
 use Rattle.board.proofs.Opened.{opened}
 
@@ -63,7 +64,7 @@ used-up = refl
 
 -- a handover drops an unfinished and a held frame
 pub dropped :
-    told (offer (0xAA ∷ 0x18 ∷ []) ∷ handover ∷ offer (0x7F ∷ 0x1A ∷ []) ∷ fetch 259 ∷ offer idle ∷ handover ∷ fetch 259 ∷ [])
+    told (offer (0xAA ∷ 0x18 ∷ []) ∷ handing ∷ offer (0x7F ∷ 0x1A ∷ []) ∷ fetch 259 ∷ offer idle ∷ handing ∷ fetch 259 ∷ [])
     ≡ (Done, 2) ∷ (Done, 0) ∷ (Done, 2) ∷ (Refused NoFrameHeld, 0) ∷ (Done, 4) ∷ (Done, 0) ∷ (Refused NoFrameHeld, 0) ∷ []
 unfolding opened
 dropped = refl

@@ -22,12 +22,12 @@ use Rattle.refusals.specs.declared.Outcome.the-variants.{Done}
 use Rattle.refusals.specs.Refusals.{first}
 use Rattle.hire.specs.Tick.{eventsOf, recordedAll, statusFor}
 use Rattle.pack.specs.Pack.{newPack, laterOf}
-use Rattle.board.specs.Calls.{tick, handover, shape, outcomeOf, boardBy, outcomeIn, boardAfter}
+use Rattle.board.specs.Calls.{tick, shape, outcomeOf, boardBy, outcomeIn, boardAfter}
 use Rattle.hire.specs.Registers.{readingRegister}
 use Rattle.answers.specs.Registers.{shownAt}
 use Rattle.board.specs.Handover.{handedOver}
 use Rattle.board.proofs.Opened.{steps}
-use Rattle.facts.proofs.Calls.{readingOf, shownBy}
+use Rattle.facts.proofs.Calls.{readingOf, shownBy, handing}
 
 -- ---- ticks
 
@@ -162,18 +162,18 @@ used = after fresh (storm (pos 30000) true ∷ ridden 400 ∷ drawn ∷ replicat
 
 pub handed : Board
 unfolding used shape outcomeOf first boardBy handedOver newHire noEvents statistics.clearedAt
-handed = boardAfter used handover
+handed = boardAfter used handing
 
 -- distance and latchings, lifetime at the clear; lifetime and status
 abbrev looked-at : List ℕ
 looked-at = 100 ∷ 105 ∷ 106 ∷ 107 ∷ 108 ∷ 109 ∷ 116 ∷ 32 ∷ 50 ∷ []
 
--- on a usable board handover never refuses. Events and statistics go to their start values; 116 takes the lifetime; status
+-- on a usable board handover refuses no record of 32 bytes. Events and statistics go to their start values; 116 takes the lifetime; status
 -- becomes 0x97. Kept: the lifetime, latched conditions, waits; COC recovers 29 ticks later, DOC 31
 pub a-handover :
     (map (shownBy used) looked-at ≡ map Register (20 ∷ 1 ∷ 1 ∷ 1 ∷ 1 ∷ 1 ∷ 0 ∷ 2 ∷ 0x9B ∷ []))
     × (recorded used ≡ 0x64 ∷ 0x02 ∷ 0x03 ∷ 0x04 ∷ 0x06 ∷ 0x37 ∷ 0x65 ∷ 0x7B ∷ 0x79 ∷ 0x73 ∷ 0x74 ∷ 0x05 ∷ [])
-    × (outcomeIn used handover ≡ Done)
+    × (outcomeIn used handing ≡ Done)
     × (map (shownBy handed) looked-at ≡ map Register (0 ∷ 0 ∷ 0 ∷ 0 ∷ 0 ∷ 0 ∷ 2 ∷ 2 ∷ 0x97 ∷ []))
     × (recorded handed ≡ [])
     × (handed .hire ≡ newHire 2)

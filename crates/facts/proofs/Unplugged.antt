@@ -7,10 +7,10 @@ use mathlib.Core.List.{List, [], _∷_, map}
 use Prim.Native.Nat.{ℕ}
 use lib.IntN.{pos}
 use Rattle.board.specs.Start.{startBoard}
-use Rattle.board.specs.Calls.{Call, handover}
+use Rattle.board.specs.Calls.{Call}
 use Rattle.board.specs.Behaviour.{board, afterIn, answersIn}
 use Rattle.board.proofs.Opened.{opened}
-use Rattle.facts.proofs.Calls.{warmed, unplugged}
+use Rattle.facts.proofs.Calls.{warmed, unplugged, handing}
 use Rattle.facts.proofs.Ticks.{recorded}
 
 -- the discharge switch after each of these calls, and the numbers of the events after all of them
@@ -45,7 +45,7 @@ pub record Story : Type 0 where
   -- kept at handover
   pub handed-over :
       switches
-      (warmed (pos 200) (pos 200) (pos 600) ∷ handover
+      (warmed (pos 200) (pos 200) (pos 600) ∷ handing
       ∷ warmed (pos 200) (pos 200) unplugged ∷ warmed (pos 200) (pos 200) (pos 200) ∷ [])
       ≡ false ∷ false ∷ false ∷ true ∷ []
   -- emptied at recovery: when OT latches again without it, external 2 is not asked for

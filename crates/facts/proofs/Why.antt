@@ -17,6 +17,7 @@ use Rattle.refusals.specs.declared.Refusal.the-variants.{NoRoom, Foreign, Damag
 use Rattle.refusals.specs.declared.Refusal.the-variants.{OutOfRange, OutOfOrder, FrameHeld, NoFrameHeld}
 use Rattle.refusals.specs.declared.Refusal.the-variants.{WrongCells, WrongCurrent, NoInternal, WrongPulses, NoBoard, WrongArea}
 use Rattle.refusals.specs.declared.Refusal.the-variants.{UsedAfterUnused, NeverRecorded, BadRecord, CutRecord, WrongSlice}
+use Rattle.refusals.specs.declared.Refusal.the-variants.{CutBill, PastTotal, WrongRecord}
 use Rattle.refusals.specs.declared.Outcome.{Outcome}
 use Rattle.refusals.specs.declared.Outcome.the-variants.{Done, Refused}
 use Rattle.refusals.specs.Refusals.{refusalNumber, leftBy, numberOf, first}
@@ -148,6 +149,9 @@ nacked NeverRecorded e = absurd (false≢true e)
 nacked BadRecord e = absurd (false≢true e)
 nacked CutRecord e = absurd (false≢true e)
 nacked WrongSlice e = absurd (false≢true e)
+nacked CutBill e = absurd (false≢true e)
+nacked PastTotal e = absurd (false≢true e)
+nacked WrongRecord e = absurd (false≢true e)
 
 -- what is answered to such a refusal, and what it leaves of the board
 module _ (b : Board) (s : List ℕ) where

@@ -31,13 +31,13 @@ use Rattle.board.specs.declared.Board.{Board}
 use Rattle.board.specs.State.{withSettings, withStatistics, withReceiver}
 use Rattle.board.specs.Start.{startBoard}
 use Rattle.replies.specs.Replies.{padded, sealed, nackOf}
-use Rattle.board.specs.Calls.{Call, tick, frame, handover, offer, fetch, Lent, nothingLent, replyLent, areaLent, shape, letsGo, Seen, seen}
+use Rattle.board.specs.Calls.{Call, tick, frame, offer, fetch, Lent, nothingLent, replyLent, areaLent, shape, letsGo, Seen, seen}
 use Rattle.board.specs.Calls.{step}
 use Rattle.board.specs.Behaviour.{Behaviour, board}
 use Rattle.board.specs.Account.{hands, distanceAt}
 use Rattle.board.specs.Demands.{deeds, Demand1, Demand2, SameKept, Demand3}
 use Rattle.board.proofs.Opened.{accounted}
-use Rattle.facts.proofs.Calls.{flow, still, status, events, latchings, write-800, to-800, ask-316, read-316}
+use Rattle.facts.proofs.Calls.{flow, still, status, events, handing, latchings, write-800, to-800, ask-316, read-316}
 use Rattle.facts.proofs.Calls.{says, answerAt, outcomeAt, byteAt}
 use Rattle.facts.proofs.Invariants.{Typed, Bytes}
 use Rattle.facts.proofs.ReadsBack.{ReadsBack, entry-reads}
@@ -196,7 +196,8 @@ nacking-fails h =
 
 -- but it shows nothing of an earlier rider
 pub nacking-forgets : Demand3 nacking
-nacking-forgets cells perKm xs ys zs k = refl
+unfolding shape
+nacking-forgets cells perKm xs ys zs number number′ k = (refl, refl)
 
 -- ---- every frame gets the idle reply
 
@@ -211,7 +212,8 @@ unfolding accounted
 idling-fails h = let z : _≡_ {A = ℕ} 0x18 0x12 = ap (byteAt 0 1) (h 4 2000 (events ∷ [])) in omega arith
 
 pub idling-forgets : Demand3 idling
-idling-forgets cells perKm xs ys zs k = refl
+unfolding shape
+idling-forgets cells perKm xs ys zs number number′ k = (refl, refl)
 
 -- ---- the first frame is answered, and its answer repeated
 
@@ -242,6 +244,7 @@ invented s =
             ot = s .counts .ot;
             charging = s .counts .charging;
           };
+      sums = s .sums;
       pulses = s .pulses;
       drawn = s .drawn;
       fed = s .fed;
@@ -279,8 +282,8 @@ same-kept = record { settings = refl; clock = refl; latched = refl; waits = refl
 pub keeping-fails : ¬ Demand3 keeping
 unfolding accounted
 keeping-fails h =
-    let e = h 4 2000 (flow (pos 0) 0 true ∷ []) (still ∷ []) (events ∷ []) (inr same-kept) in
-    let z : _≡_ {A = ℕ} 8 4 = ap (byteAt 1 2) e in
+    let e = h 4 2000 (flow (pos 0) 0 true ∷ []) (still ∷ []) (events ∷ []) 0 0 (inr same-kept) .1 in
+    let z : _≡_ {A = ℕ} 8 4 = ap (byteAt 0 2) e in
     omega arith
 
 -- ---- a handover that forgets, and shows the last rider's switches once more
@@ -295,8 +298,8 @@ lingering = record { State = Board; start = startBoard; started = board .started
 pub lingering-fails : ¬ Demand3 lingering
 unfolding accounted
 lingering-fails h =
-    let e = h 4 2000 (flow (pos 0) 0 true ∷ []) (still ∷ []) [] (inr same-kept) in
-    let z : true ≡ false = ap (λ (answers : List Seen). answerAt 0 answers .charge) e in
+    let e = h 4 2000 (flow (pos 0) 0 true ∷ []) (still ∷ []) [] 0 0 (inr same-kept) .0 in
+    let z : true ≡ false = ap (λ (a : Seen). a .charge) e in
     absurd (false≢true (sym z))
 
 -- ---- a write is accepted, and not kept
@@ -379,6 +382,6 @@ pub distance-kept : ¬ ReadsBack keeping
 unfolding accounted distanceAt
 distance-kept h =
     let s : List ℕ = 0xAA ∷ 0x03 ∷ 0x00 ∷ 0x64 ∷ 0x00 ∷ 0x02 ∷ 0x9C ∷ 0x0F ∷ [] in
-    let e = h .distance 4 2000 (flow (pos 0) 20 false ∷ handover ∷ []) (omega arith) (frame s 259) s 259 (inl refl) refl refl in
+    let e = h .distance 4 2000 (flow (pos 0) 20 false ∷ handing ∷ []) (omega arith) (frame s 259) s 259 (inl refl) refl refl in
     let z : _≡_ {A = ℕ} 1 0 = ap (λ (l : List ℕ). getD l 4 0) e in
     omega arith

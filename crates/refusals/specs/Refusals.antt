@@ -9,12 +9,13 @@ use Rattle.refusals.specs.declared.Refusal.the-variants.{NoRoom, Foreign
 use Rattle.refusals.specs.declared.Refusal.the-variants.{OutOfRange, OutOfOrder, FrameHeld, NoFrameHeld}
 use Rattle.refusals.specs.declared.Refusal.the-variants.{WrongCells, WrongCurrent, NoInternal, WrongPulses, NoBoard, WrongArea}
 use Rattle.refusals.specs.declared.Refusal.the-variants.{UsedAfterUnused, NeverRecorded, BadRecord, CutRecord, WrongSlice}
+use Rattle.refusals.specs.declared.Refusal.the-variants.{CutBill, PastTotal, WrongRecord}
 use Rattle.refusals.specs.declared.Left.{Left}
 use Rattle.refusals.specs.declared.Left.the-variants.{Zeros, Nack}
 use Rattle.refusals.specs.declared.Outcome.{Outcome}
 use Rattle.refusals.specs.declared.Outcome.the-variants.{Done, Refused}
 
--- document 01: frames, ticks, a start; and W-201, W-205, W-208 (41 to 45 in the place of 4), W-211 and W-213 of document 02. There is no number 5
+-- document 01: frames, ticks, a start; and W-201, W-205, W-208 (41 to 45 in the place of 4), W-211, W-213 and W-214 of document 02. There is no number 5
 -- since W-209
 abbrev pub refusalNumber : Refusal → ℕ
 refusalNumber NoRoom = 1
@@ -38,6 +39,9 @@ refusalNumber NeverRecorded = 33
 refusalNumber BadRecord = 61
 refusalNumber CutRecord = 62
 refusalNumber WrongSlice = 71
+refusalNumber CutBill = 81
+refusalNumber PastTotal = 82
+refusalNumber WrongRecord = 83
 
 -- 44, a setting outside its range, with its register number; of every other 0
 abbrev pub refusalRegister : Refusal → ℕ
@@ -62,6 +66,9 @@ refusalRegister NeverRecorded = 0
 refusalRegister BadRecord = 0
 refusalRegister CutRecord = 0
 refusalRegister WrongSlice = 0
+refusalRegister CutBill = 0
+refusalRegister PastTotal = 0
+refusalRegister WrongRecord = 0
 
 -- what a refusal leaves in a lent reply buffer: a NACK, error 0x01 or 0x00, or zeros alone
 abbrev pub leftBy : Refusal → Left
@@ -86,6 +93,9 @@ leftBy NeverRecorded = Zeros
 leftBy BadRecord = Zeros
 leftBy CutRecord = Zeros
 leftBy WrongSlice = Zeros
+leftBy CutBill = Zeros
+leftBy PastTotal = Zeros
+leftBy WrongRecord = Zeros
 
 -- 0, done
 abbrev pub numberOf : Outcome → ℕ

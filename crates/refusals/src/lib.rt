@@ -24,6 +24,9 @@ pub enum Refusal {
     BadRecord, // a bad record of a recording
     CutRecord, // a cut last record
     WrongSlice, // not of a cabinet's twenty registers
+    CutBill, // a cut last record of a bill
+    PastTotal, // a total past 64 bits
+    WrongRecord, // a handover's record that is not of 32 bytes
 }
 
 // What a refusal leaves in a lent reply buffer: zeros alone, or a NACK with its error, and then zeros.
@@ -95,6 +98,9 @@ impl Refusal {
             Refusal::BadRecord => 61,
             Refusal::CutRecord => 62,
             Refusal::WrongSlice => 71,
+            Refusal::CutBill => 81,
+            Refusal::PastTotal => 82,
+            Refusal::WrongRecord => 83,
         }
     }
 
@@ -132,6 +138,9 @@ impl Refusal {
             Refusal::BadRecord => Left::Zeros,
             Refusal::CutRecord => Left::Zeros,
             Refusal::WrongSlice => Left::Zeros,
+            Refusal::CutBill => Left::Zeros,
+            Refusal::PastTotal => Left::Zeros,
+            Refusal::WrongRecord => Left::Zeros,
         }
     }
 }

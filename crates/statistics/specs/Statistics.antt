@@ -11,7 +11,9 @@ use Rattle.readings.specs.declared.Readings.{Readings}
 use Rattle.readings.specs.Readings.{connected}
 use Rattle.guard.specs.declared.Conditions.{Conditions}
 use Rattle.statistics.specs.declared.Temperatures.{Temperatures}
+use Rattle.desk.specs.declared.Record.{Record}
 use Rattle.statistics.specs.declared.Counts.{Counts}
+use Rattle.statistics.specs.declared.Sums.{Sums}
 use Rattle.statistics.specs.declared.Statistics.{Statistics}
 
 -- pulses are summed exactly; past 2^48 every distance has stopped at its end
@@ -55,12 +57,21 @@ withExternal t external =
 unfoldable pub temperaturesShown : Temperatures → ℕ
 temperaturesShown t = cond (t .seen) (degreesOf (t .coldest) + 256 * degreesOf (t .hottest)) 0
 
+-- W-214: the positive mA and the negative mA (as a positive number), each in 64 bits, stopping at the largest value
+abbrev pub largestSum : ℕ
+largestSum = 18446744073709551615
+
+unfoldable pub summedOf : Sums → ℤ → Sums
+summedOf s current =
+    record { positive = min largestSum (s .positive + above current); negative = min largestSum (s .negative + below current) }
+
 -- a tick's pulses, by which distance grows
 unfoldable pub riddenOf : Statistics → ℕ → Statistics
 riddenOf s pulses =
     record {
       temperatures = s .temperatures;
       counts = s .counts;
+      sums = s .sums;
       pulses = riddenPulses (s .pulses) pulses;
       drawn = s .drawn;
       fed = s .fed;
@@ -68,12 +79,13 @@ riddenOf s pulses =
       cleared = s .cleared;
     }
 
--- all else that a tick counts: largest currents with or without the charger, largest cell difference, counts, temperatures
+-- all else that a tick counts: largest currents with or without the charger, largest cell difference, counts, temperatures, and both sums
 unfoldable pub countedOf : Statistics → Readings → Extremes → Conditions → Conditions → Bool → Statistics
 countedOf s r e before after entered =
     record {
       temperatures = withExternal (withExternal (s .temperatures) (r .external1)) (r .external2);
       counts = countsOf (s .counts) before after entered;
+      sums = summedOf (s .sums) (r .current);
       pulses = s .pulses;
       drawn = max (s .drawn) (hundreds (below (r .current)));
       fed = max (s .fed) (hundreds (above (r .current)));
@@ -87,6 +99,7 @@ clearedAt lifetime =
     record {
       temperatures = record { coldest = pos 0; hottest = pos 0; seen = false };
       counts = record { uv = 0; ov = 0; doc = 0; charge = 0; ot = 0; charging = 0 };
+      sums = record { positive = 0; negative = 0 };
       pulses = 0;
       drawn = 0;
       fed = 0;
@@ -112,3 +125,21 @@ registerOf s perKm at =
     (cond (eqb at 116) (lowHalf (s .cleared))
     (cond (eqb at 117) (highHalf (s .cleared))
     0)))))))))))))
+
+-- ---- W-214: the record that leaves at a handover
+
+-- the sum of registers 105 to 109
+abbrev pub latchingsOf : Counts → ℕ
+latchingsOf c = c .uv + c .ov + c .doc + c .charge + c .ot
+
+-- pack number, seconds since that clear, both sums, distance, and the sum of registers 105 to 109
+unfoldable pub billOf : Statistics → ℕ → ℕ → ℕ → Record
+billOf s pack perKm lifetime =
+    record {
+      pack = pack;
+      seconds = lifetime - s .cleared;
+      positive = s .sums .positive;
+      negative = s .sums .negative;
+      distance = distanceOf (s .pulses) perKm;
+      latchings = latchingsOf (s .counts);
+    }

@@ -1,9 +1,10 @@
-// What is counted since the last clear: distance, largest currents and cell difference, latchings, temperatures.
+// What is counted since the last clear: distance, largest currents and cell difference, latchings, temperatures, and the sums of the current.
 ghost use mathlib.Core.Path.{_≡_};
-ghost use Prim.Native.Nat.{min, max};
+ghost use Prim.Native.Nat.{_+_, _-_, _≤_, min, max};
 ghost use Rattle.statistics.specs.Statistics.{riddenPulses, distanceOf, hundreds, countOf, countsOf, withExternal, temperaturesShown};
-ghost use Rattle.statistics.specs.Statistics.{riddenOf, countedOf, clearedAt, registerOf};
+ghost use Rattle.statistics.specs.Statistics.{summedOf, riddenOf, countedOf, clearedAt, registerOf, latchingsOf, billOf};
 use cells::Extremes;
+use desk::Record;
 use guard::Conditions;
 use readings::Readings;
 
@@ -22,9 +23,16 @@ pub struct Counts {
     pub charging: u16, // entries into 0x91
 }
 
+// Of the mA of each tick, exact up to the largest value.
+pub struct Sums {
+    pub positive: u64,
+    pub negative: u64, // as a positive number
+}
+
 pub struct Statistics {
     pub temperatures: Temperatures,
     pub counts: Counts,
+    pub sums: Sums,
     pub pulses: u64, // all since the clear: the distance is told from them, so no remainder can stay behind
     pub drawn: u16, // largest currents, 100 mA
     pub fed: u16,
@@ -50,6 +58,10 @@ impl Statistics {
                 charge: 0,
                 ot: 0,
                 charging: 0,
+            },
+            sums: Sums {
+                positive: 0,
+                negative: 0,
             },
             pulses: 0,
             drawn: 0,
@@ -82,12 +94,14 @@ impl Statistics {
             .with(readings.external1)
             .with(readings.external2);
         let counts = self.counts.next(before, after, entered);
+        let sums = self.sums.with(readings.current);
         let drawn = higher(self.drawn, in_hundreds(signed::negative(readings.current)));
         let fed = higher(self.fed, in_hundreds(signed::positive(readings.current)));
         let difference = higher(self.difference, extremes.difference());
         Statistics {
             temperatures,
             counts,
+            sums,
             pulses: self.pulses,
             drawn,
             fed,
@@ -104,6 +118,20 @@ impl Statistics {
             return 0;
         }
         held_to_32_bits(100 * held_pulses(self.pulses) / (per_km as u64))
+    }
+
+    // What the desk gets at a handover, for the pack of that number, at that lifetime.
+    pub fn billed(self, pack: u32, per_km: u16, lifetime: u32) -> Record
+        ensures { λ r. ⌜ r ≡ billOf self pack «per_km» lifetime ⌝ }
+    {
+        Record {
+            pack,
+            seconds: over(lifetime, self.cleared),
+            positive: self.sums.positive,
+            negative: self.sums.negative,
+            distance: self.distance(per_km),
+            latchings: self.counts.latchings(),
+        }
     }
 
     // A register of 100 to 117; an unlisted one reads 0.
@@ -185,6 +213,36 @@ impl Counts {
             charging,
         }
     }
+
+    // The sum of registers 105 to 109.
+    fn latchings(self) -> u32
+        ensures { λ r. ⌜ r ≡ latchingsOf self ⌝ }
+    {
+        (self.uv as u32)
+            + (self.ov as u32)
+            + (self.doc as u32)
+            + (self.charge as u32)
+            + (self.ot as u32)
+    }
+}
+
+impl Sums {
+    fn with(self, current: i32) -> Sums
+        ensures { λ r. ⌜ r ≡ summedOf self current ⌝ }
+    {
+        Sums {
+            positive: sum_of(
+                self.positive,
+                signed::positive(current) as u64,
+                18446744073709551615,
+            ),
+            negative: sum_of(
+                self.negative,
+                signed::negative(current) as u64,
+                18446744073709551615,
+            ),
+        }
+    }
 }
 
 fn counted_up(n: u16, more: bool) -> u16
@@ -209,17 +267,27 @@ fn in_hundreds(milliamps: u32) -> u16
     if n < 65535 { n as u16 } else { 65535 }
 }
 
+// A sum that stops at the most that it may be.
+fn sum_of(sum: u64, more: u64, most: u64) -> u64
+    requires { ⌜ more ≤ most ⌝ }
+    ensures { λ r. ⌜ r ≡ min most (sum + more) ⌝ }
+{
+    if sum < most - more { sum + more } else { most }
+}
+
+// By how much the one is over the other; 0 if it is not.
+fn over(n: u32, other: u32) -> u32
+    ensures { λ r. ⌜ r ≡ n - other ⌝ }
+{
+    if other < n { n - other } else { 0 }
+}
+
 // Past 2^48 pulses every distance has stopped at its end.
 
 fn more_pulses(sum: u64, pulses: u16) -> u64
     ensures { λ r. ⌜ r ≡ riddenPulses sum pulses ⌝ }
 {
-    let more = pulses as u64;
-    if sum < 281474976710656 - more {
-        sum + more
-    } else {
-        281474976710656
-    }
+    sum_of(sum, pulses as u64, 281474976710656)
 }
 
 fn held_pulses(sum: u64) -> u64

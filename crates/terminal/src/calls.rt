@@ -37,6 +37,7 @@ pub(crate) enum Call {
     Load { count: usize },
     Cabinet { length: usize },
     Handover,
+    Record { number: u32, length: usize },
     Crc(u16),
     Register(u16),
 }
@@ -211,12 +212,20 @@ fn load_call(line: &[u8], from: usize, request: &mut [u8]) -> Call {
     }
 }
 
+// Alone, or with the desk's pack number and the length of its record.
 fn handover_call(line: &[u8], from: usize) -> Call {
     if is_last(line, from) {
-        Call::Handover
-    } else {
-        Call::Wrong
+        return Call::Handover;
     }
+    let pack = number(line, from, 4294967295);
+    let length = only_number(line, pack.next, MOST_ROOM as u32);
+    if length.good {
+        return Call::Record {
+            number: pack.value as u32,
+            length: length.value as usize,
+        };
+    }
+    Call::Wrong
 }
 
 fn crc_call(line: &[u8], from: usize, request: &mut [u8]) -> Call {

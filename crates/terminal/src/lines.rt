@@ -31,7 +31,7 @@ pub(crate) fn put_replied(out: &mut [u8], at: usize, state: State, reply: &[u8])
     put_end(out, bytes)
 }
 
-// Every byte of the area.
+// Every byte of the area or the record.
 pub(crate) fn put_saved(out: &mut [u8], at: usize, state: State, area: &[u8]) -> usize {
     let next = put_state(out, at, state);
     let bytes = put_bytes(out, next, area);

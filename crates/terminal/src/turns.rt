@@ -14,10 +14,11 @@ use crate::lines::put_told;
 use board::Answer;
 use board::Board;
 use board::Heard;
+use desk::RECORD;
 use numbers::lesser;
 use refusals::Outcome;
 
-// What a reply buffer, an area or a slice holds before a call, so that what the call leaves alone shows.
+// What a reply buffer, an area, a slice or a record holds before a call, so that what the call leaves alone shows.
 const FILLING: u8 = 0x5A;
 
 const SLICE_FILLING: u16 = 0x5A5A;
@@ -62,7 +63,8 @@ pub(crate) fn answered(
             told(board.load(&request[0..length]), out, said)
         }
         Call::Cabinet { length } => measured(board, length, out, said),
-        Call::Handover => told(board.handover(), out, said),
+        Call::Handover => handed(board, out, said),
+        Call::Record { number, length } => billed(board, number, length, out, said),
         Call::Crc(crc) => after(board, put_crc(out, said, crc)),
         Call::Register(at) => shown(board, at, out, said),
     }
@@ -78,7 +80,7 @@ fn told(answer: Answer, out: &mut [u8], said: usize) -> Turn {
     after(answer.board, put_told(out, said, state))
 }
 
-// A frame, a fetch, a save, a cabinet's call and a register read the board in memory. Each has a function of its own, which copies it there for its
+// A frame, a fetch, a save, a cabinet's call, a handover and a register read the board in memory. Each has a function of its own, which copies it there for its
 // own lines; in the match above every line would copy it.
 fn framed(board: Board, request: &[u8], reply: &mut [u8], out: &mut [u8], said: usize) -> Turn {
     let answer = board.frame(request, reply);
@@ -124,6 +126,25 @@ fn measured_into(board: Board, slice: &mut [u16], out: &mut [u8], said: usize) -
     let outcome = answer.outcome;
     let state = state_of(answer.board, outcome);
     after(answer.board, put_slice(out, said, state, slice))
+}
+
+// The desk's call with a record that is not shown.
+fn handed(board: Board, out: &mut [u8], said: usize) -> Turn {
+    let mut bytes = [FILLING; RECORD];
+    told(board.handover(0, &mut bytes), out, said)
+}
+
+fn billed(board: Board, number: u32, length: usize, out: &mut [u8], said: usize) -> Turn {
+    let mut bytes = [FILLING; MOST_ROOM];
+    let lent = lesser(length, MOST_ROOM);
+    billed_into(board, number, &mut bytes[0..lent], out, said)
+}
+
+fn billed_into(board: Board, number: u32, bytes: &mut [u8], out: &mut [u8], said: usize) -> Turn {
+    let answer = board.handover(number, bytes);
+    let outcome = answer.outcome;
+    let state = state_of(answer.board, outcome);
+    after(answer.board, put_saved(out, said, state, bytes))
 }
 
 fn heard(heard: Heard, out: &mut [u8], said: usize) -> Turn {

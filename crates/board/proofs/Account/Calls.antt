@@ -207,7 +207,7 @@ module _ (cells perKm : ℕ) where
     unfolding shape boardAt
     goes (tick given r) e = ticked given r h some
     goes (frame s room) e = rows-go s (off NoRoom _ _ e .1)
-    goes handover e = handed-goes h
+    goes (handover number n) e = handed-goes h
     goes (offer bytes) e =
         ap (withReceiver before) (heard-taken bytes (before .hire .receiver))
         ∙ heard-goes h (take (taken (before .hire .receiver) bytes) bytes)

@@ -89,7 +89,7 @@ module _ (cells perKm : ℕ) where
         let (i, e₃) = off NoInternal _ _ e₂ in
         (record { count = u; cells-right = a; current-right = k; internal-right = i; pulses-right = off WrongPulses _ _ e₃ .0 }, tt)
     done-may (frame s room) u e = rows-may s (off NoRoom _ _ e .1)
-    done-may handover u e = (tt, tt)
+    done-may (handover number n) u e = (tt, tt)
     done-may (offer bytes) u e = (tt, tt)
     done-may (fetch room) u e = (tt, rows-may (heldIn b) (off NoFrameHeld _ _ (off NoRoom _ _ e .1) .1))
     done-may (save n) u e = tt

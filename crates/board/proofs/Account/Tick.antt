@@ -27,14 +27,14 @@ use Rattle.readings.specs.declared.Readings.{Readings}
 use Rattle.readings.specs.Readings.{connected}
 use Rattle.signed.specs.Signed.{above, below, lowerOf, higherOf}
 use Rattle.statistics.specs.declared.Temperatures.{Temperatures}
-use Rattle.statistics.specs.Statistics.{hundreds, countOf, countsOf, withExternal, riddenOf, countedOf}
+use Rattle.statistics.specs.Statistics.{hundreds, countOf, countsOf, withExternal, riddenOf, countedOf, summedOf, largestSum}
 use Rattle.pack.specs.declared.Clock.{Clock}
 use Rattle.pack.specs.Pack.{laterOf}
 use Rattle.hire.specs.Tick.{eventsOf, recordedOf, recordedAll}
 use Rattle.board.specs.Account.{Deed, took, clears, hands, ticking, momentOf, momentsAt, settingsAt, countAt, secondsAt, clockAt}
 use Rattle.board.specs.Account.{latchedAt, waitsAt, rememberedAt, windowAt, chargerAt, statusAt, someEvent, newestFirst, numbersOf}
 use Rattle.board.specs.Account.{recordedNow, forgets, loading, keptSince, newSince, eventsAt, latchings, entering, externals}
-use Rattle.board.specs.Account.{coldestOf, hottestOf, temperaturesOf, pulsesAt, statisticsAt}
+use Rattle.board.specs.Account.{coldestOf, hottestOf, temperaturesOf, pulsesAt, positiveAt, negativeAt, statisticsAt}
 
 -- ---- time
 clock-same : {a b c d : ℕ} → a ≡ b → c ≡ d → _≡_ {A = Clock} (record { seconds = a; tenths = c }) (record { seconds = b; tenths = d })
@@ -158,6 +158,9 @@ counted-twice true false n m = omega arith
 counted-twice false true n m = omega arith
 counted-twice false false n m = omega arith
 
+summed : (x n : ℕ) → min largestSum (x + n) ≡ min largestSum (min largestSum n + x)
+summed x n = omega arith
+
 larger : (x : ℕ) (xs : List ℕ) → largest (x ∷ xs) ≡ max (largest xs) x
 larger x xs = omega arith
 
@@ -165,7 +168,7 @@ pub statistics-next : (cells : List ℕ) (r : Readings) (h : List Deed)
     → statisticsAt (took cells r ∷ h)
     ≡ countedOf (riddenOf (statisticsAt h) (r .pulses)) r (extremesOf cells) (latchedAt h) (latchedAt (took cells r ∷ h))
     (eqb (statusAt (took cells r ∷ h)) 0x91 && not (eqb (statusAt h) 0x91))
-unfolding statisticsAt countedOf riddenOf countsOf is
+unfolding statisticsAt countedOf riddenOf countsOf summedOf is
 statistics-next cells r h =
     let after = latchedAt (took cells r ∷ h) in
     let before = latchedAt h in
@@ -185,6 +188,7 @@ statistics-next cells r h =
             charging = counted (eqb (statusAt (took cells r ∷ h)) 0x91 && not (eqb (statusAt h) 0x91))
                 (count (λ yes. yes) (each entering (since clears h))) i;
           };
+      sums = record { positive = summed (above (r .current)) (positiveAt h) i; negative = summed (below (r .current)) (negativeAt h) i };
       pulses = ridden i;
       drawn = larger (hundreds (below (r .current))) (map (λ t. hundreds (below (t .1 .current))) ts) i;
       fed = larger (hundreds (above (r .current))) (map (λ t. hundreds (above (t .1 .current))) ts) i;

@@ -96,7 +96,7 @@ leaves b (frame s room) = go (not (usable b)) (ltb room 259) refl
     go true t e = left-blank b s room (Refused NoBoard) (refl, refl)
     go false true e = left-blank b s room (Refused NoRoom) (refl, refl)
     go false false e = subst⁻¹ (Leftover b s room) (sym (by-table b s)) (left-whole b s room e)
-leaves b handover = refl
+leaves b (handover number n) = refl
 leaves b (offer bytes) = refl
 leaves b (fetch room) = go (not (usable b)) (ltb room 259) refl (not (holds b))
   where

@@ -8,6 +8,8 @@ use mathlib.Core.List.{List, [], _∷_, _++_}
 use Prim.Native.Nat.{ℕ, _/_, _%_, min}
 use lib.ListN.{length, drop}
 use Rattle.board.specs.declared.Board.{Board}
+use Rattle.laws.specs.History.{headOr}
+use Rattle.desk.specs.Desk.{recordLength}
 use Rattle.guard.specs.declared.Guard.{Guard}
 use Rattle.pack.specs.declared.Pack.{Pack}
 use Rattle.board.specs.State.{usable}
@@ -21,7 +23,7 @@ use Rattle.refusals.specs.Refusals.{isDone, first}
 use Rattle.board.specs.Calls.{Call, Seen, seen, handover, shape, boardBy, seenOf, outcomeIn, step}
 use Rattle.board.specs.Behaviour.{Behaviour, board, afterIn, answersIn}
 use Rattle.board.specs.Account.{Deed, boardAt, clockAt, secondsAt, countAt}
-use Rattle.board.specs.Demands.{deeds, BothQuiet, SameKept, Demand2, Demand3}
+use Rattle.board.specs.Demands.{deeds, withoutRecord, shown, next, BothQuiet, SameKept, Demand2, Demand3}
 use Rattle.board.proofs.Shape.{none-21, by-rows, kept-none}
 use Rattle.board.proofs.Account.Tick.{guardAt}
 use Rattle.board.proofs.Demands.QuietTicks.{stilled}
@@ -42,19 +44,21 @@ stays b (c ∷ cs) e = ap (λ x. afterIn board x cs) (unusable b c e) ∙ stays 
 handed-on : Pack → Board
 handed-on p = record { pack = p; hire = newHire (p .clock .seconds) }
 
-answers-of : List Call → Pack → List Seen
-answers-of zs p = seen (handed-on p) Done [] 0 ∷ answersIn board (handed-on p) zs
+module _ (b : Board) (number : ℕ) (e : usable b ≡ true) where
+  abbrev handing : Call
+  handing = handover number recordLength
 
-is-handed : (b : Board) → usable b ≡ true → outcomeIn b handover ≡ Done
-unfolding shape first
-is-handed b e = by-rows b (shape handover) e
+  is-handed : outcomeIn b handing ≡ Done
+  unfolding shape first
+  is-handed = by-rows b (shape handing) e
 
-handed : (b : Board) (zs : List Call) → usable b ≡ true → answersIn board b (handover ∷ zs) ≡ answers-of zs (b .pack)
-unfolding answersIn shape boardBy seenOf handedOver handed-on answers-of
-handed b zs e =
-    ap (λ (o : Outcome). seen (boardBy b (shape handover) o) o (seenOf (shape handover .lent b) o)
-    (cond (isDone o) (shape handover .carries b) 0) ∷ answersIn board (boardBy b (shape handover) o) zs)
-    (is-handed b e)
+  handed-board : step b handing .0 ≡ handed-on (b .pack)
+  unfolding shape boardBy handedOver handed-on
+  handed-board = ap (boardBy b (shape handing)) is-handed
+
+  handed-seen : withoutRecord (step b handing .1) ≡ seen (handed-on (b .pack)) Done [] 0
+  unfolding shape boardBy handedOver handed-on
+  handed-seen = ap (λ (o : Outcome). seen (boardBy b (shape handing) o) o [] (cond (isDone o) 0 0)) is-handed
 
 module _ (B : Behaviour) where
   answers-after : (s : B .State) (xs zs : List Call) → drop (length xs) (answersIn B s (xs ++ zs)) ≡ answersIn B (afterIn B s xs) zs
@@ -96,34 +100,53 @@ module _ (cells perKm : ℕ) (xs ys : List Call) where
         remembered = ap (λ (g : Guard). g .remembered) same-guard;
       }
 
-  same : SameKept (deeds cells perKm xs) (deeds cells perKm ys)
-      → (zs : List Call) → answersIn board (afterIn board (startBoard cells perKm) xs) (handover ∷ zs)
-      ≡ answersIn board (afterIn board (startBoard cells perKm) ys) (handover ∷ zs)
-  same e zs = go (usable (startBoard cells perKm)) refl
-    where
-      b : Board
-      b = startBoard cells perKm
+  module _ (e : SameKept (deeds cells perKm xs) (deeds cells perKm ys)) (zs : List Call) (number number′ : ℕ) where
+    b : Board
+    b = startBoard cells perKm
 
-      packs : afterIn board b xs .pack ≡ afterIn board b ys .pack
-      packs =
-          ap (λ (x : Board). x .pack) (account cells perKm xs) ∙ kept-pack cells perKm (deeds cells perKm xs) (deeds cells perKm ys) e
-          ∙ sym (ap (λ (x : Board). x .pack) (account cells perKm ys))
+    packs : afterIn board b xs .pack ≡ afterIn board b ys .pack
+    unfolding b
+    packs =
+        ap (λ (x : Board). x .pack) (account cells perKm xs) ∙ kept-pack cells perKm (deeds cells perKm xs) (deeds cells perKm ys) e
+        ∙ sym (ap (λ (x : Board). x .pack) (account cells perKm ys))
 
-      still-usable : (cs : List Call) → usable b ≡ true → usable (afterIn board b cs) ≡ true
-      still-usable cs u = ap usable (account cells perKm cs) ∙ kept-usable cells perKm (deeds cells perKm cs) ∙ u
+    still-usable : (cs : List Call) → usable b ≡ true → usable (afterIn board b cs) ≡ true
+    unfolding b
+    still-usable cs u = ap usable (account cells perKm cs) ∙ kept-usable cells perKm (deeds cells perKm cs) ∙ u
 
-      from-handover : (cs : List Call) → usable b ≡ true
-          → answersIn board (afterIn board b cs) (handover ∷ zs) ≡ answers-of zs (afterIn board b cs .pack)
-      from-handover cs u = handed (afterIn board b cs) zs (still-usable cs u)
+    abbrev HandedAlike : Board → Board → Type 0
+    HandedAlike x y =
+        (withoutRecord (step x (handover number recordLength) .1) ≡ withoutRecord (step y (handover number′ recordLength) .1))
+        × (answersIn board (step x (handover number recordLength) .0) zs ≡ answersIn board (step y (handover number′ recordLength) .0) zs)
 
-      go : (t : Bool) → usable b ≡ t
-          → answersIn board (afterIn board b xs) (handover ∷ zs) ≡ answersIn board (afterIn board b ys) (handover ∷ zs)
-      go true u = from-handover xs u ∙ ap (answers-of zs) packs ∙ sym (from-handover ys u)
-      go false u = ap (λ x. answersIn board x (handover ∷ zs)) (stays b xs u ∙ sym (stays b ys u))
+    some-handed : (x y : Board) → usable x ≡ true → usable y ≡ true → x .pack ≡ y .pack → HandedAlike x y
+    some-handed x y u v p = (
+      handed-seen x number u ∙ ap (λ (k : Pack). seen (handed-on k) Done [] 0) p ∙ sym (handed-seen y number′ v),
+      ap (λ (z : Board). answersIn board z zs) (handed-board x number u ∙ ap handed-on p ∙ sym (handed-board y number′ v)),
+    )
+
+    none-handed : (x : Board) → usable x ≡ false → HandedAlike x x
+    unfolding shape boardBy
+    none-handed x u = (
+      ap (λ (o : Outcome). seen (boardBy x (shape (handover number recordLength)) o) o [] (cond (isDone o) 0 0))
+          (none-21 x (shape (handover number recordLength)) u)
+          ∙ sym (ap (λ (o : Outcome). seen (boardBy x (shape (handover number′ recordLength)) o) o [] (cond (isDone o) 0 0))
+          (none-21 x (shape (handover number′ recordLength)) u)),
+      ap (λ (z : Board). answersIn board z zs)
+          (unusable x (handover number recordLength) u ∙ sym (unusable x (handover number′ recordLength) u)),
+    )
+
+    same : HandedAlike (afterIn board (startBoard cells perKm) xs) (afterIn board (startBoard cells perKm) ys)
+    unfolding b
+    same = go (usable b) refl
+      where
+        go : (t : Bool) → usable b ≡ t → HandedAlike (afterIn board b xs) (afterIn board b ys)
+        go true u = some-handed (afterIn board b xs) (afterIn board b ys) (still-usable xs u) (still-usable ys u) packs
+        go false u = rw (stays b xs u, stays b ys u) (none-handed b u)
 
 pub demand3 : Demand3 board
-demand3 cells perKm xs ys zs (inl q) = same cells perKm xs ys (both-quiet cells perKm xs ys q) zs
-demand3 cells perKm xs ys zs (inr e) = same cells perKm xs ys e zs
+demand3 cells perKm xs ys zs number number′ (inl q) = same cells perKm xs ys (both-quiet cells perKm xs ys q) zs number number′
+demand3 cells perKm xs ys zs number number′ (inr e) = same cells perKm xs ys e zs number number′
 
 -- every board that meets demand 2 answers as ours does
 module _ (B : Behaviour) (meets : Demand2 B) where
@@ -134,6 +157,21 @@ module _ (B : Behaviour) (meets : Demand2 B) where
       ∙ ap (drop (length xs)) (meets cells perKm (xs ++ zs) ∙ sym (demand2 cells perKm (xs ++ zs)))
       ∙ answers-after board (startBoard cells perKm) xs zs
 
+  -- what is seen at a call, and all that is seen after it
+  pub as-ours : (cells perKm : ℕ) (cs : List Call) (c : Call) → shown B cells perKm cs c ≡ shown board cells perKm cs c
+  unfolding answersIn
+  as-ours cells perKm cs c = ap (headOr (shown board cells perKm cs c)) (alike cells perKm cs (c ∷ []))
+
+  after-as-ours : (cells perKm : ℕ) (cs : List Call) (c : Call) (zs : List Call)
+      → answersIn B (next B cells perKm cs c) zs ≡ answersIn board (next board cells perKm cs c) zs
+  unfolding answersIn
+  after-as-ours cells perKm cs c zs = ap (drop 1) (alike cells perKm cs (c ∷ zs))
+
   pub meets-demand3 : Demand3 B
-  meets-demand3 cells perKm xs ys zs k =
-      alike cells perKm xs (handover ∷ zs) ∙ demand3 cells perKm xs ys zs k ∙ sym (alike cells perKm ys (handover ∷ zs))
+  meets-demand3 cells perKm xs ys zs number number′ k =
+      let handing : ℕ → Call = λ n. handover n recordLength in
+      let ours = demand3 cells perKm xs ys zs number number′ k in (
+        ap withoutRecord (as-ours cells perKm xs (handing number)) ∙ ours .0
+            ∙ sym (ap withoutRecord (as-ours cells perKm ys (handing number′))),
+        after-as-ours cells perKm xs (handing number) zs ∙ ours .1 ∙ sym (after-as-ours cells perKm ys (handing number′) zs),
+      )

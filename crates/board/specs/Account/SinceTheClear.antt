@@ -15,7 +15,7 @@ use Rattle.readings.specs.Readings.{connected}
 use Rattle.signed.specs.Signed.{above, below, lowerOf, higherOf}
 use Rattle.statistics.specs.declared.Temperatures.{Temperatures}
 use Rattle.statistics.specs.declared.Statistics.{Statistics}
-use Rattle.statistics.specs.Statistics.{hundreds, distanceOf}
+use Rattle.statistics.specs.Statistics.{hundreds, distanceOf, largestSum}
 use Rattle.board.specs.Deeds.{Deed, row, clears, ticking}
 use Rattle.board.specs.Account.Kept.{secondsAt, latchedAt}
 use Rattle.board.specs.Account.LastTick.{statusAt}
@@ -52,6 +52,13 @@ temperaturesOf ts = record { coldest = coldestOf ts; hottest = hottestOf ts; see
 abbrev pub pulsesAt : List Deed → ℕ
 pulsesAt h = sum (λ t. t .1 .pulses) (each ticking (since clears h))
 
+-- W-214: the positive mA and the negative mA (as a positive number) over accepted ticks since the clear
+abbrev pub positiveAt : List Deed → ℕ
+positiveAt h = sum (λ t. above (t .1 .current)) (each ticking (since clears h))
+
+abbrev pub negativeAt : List Deed → ℕ
+negativeAt h = sum (λ t. below (t .1 .current)) (each ticking (since clears h))
+
 unfoldable pub statisticsAt : List Deed → Statistics
 statisticsAt h =
     record {
@@ -65,6 +72,7 @@ statisticsAt h =
             ot = min 65535 (latchings OT h);
             charging = min 65535 (count (λ yes. yes) (each entering (since clears h)));
           };
+      sums = record { positive = min largestSum (positiveAt h); negative = min largestSum (negativeAt h) };
       pulses = min 281474976710656 (pulsesAt h);
       drawn = largest (map (λ t. hundreds (below (t .1 .current))) (each ticking (since clears h)));
       fed = largest (map (λ t. hundreds (above (t .1 .current))) (each ticking (since clears h)));

@@ -15,6 +15,7 @@ use Rattle.refusals.specs.declared.Refusal.the-variants.{NoRoom, Foreign
 use Rattle.refusals.specs.declared.Refusal.the-variants.{OutOfRange, OutOfOrder, FrameHeld, NoFrameHeld}
 use Rattle.refusals.specs.declared.Refusal.the-variants.{WrongCells, WrongCurrent, NoInternal, WrongPulses, NoBoard, WrongArea}
 use Rattle.refusals.specs.declared.Refusal.the-variants.{UsedAfterUnused, NeverRecorded, BadRecord, CutRecord, WrongSlice}
+use Rattle.refusals.specs.declared.Refusal.the-variants.{CutBill, PastTotal, WrongRecord}
 use Rattle.refusals.specs.Refusals.{refusalRegister}
 use Rattle.refusals.proofs.Refusal.{the-type}
 use Rattle.refusals.proofs.Refusal.register.Statement.{statement}
@@ -43,6 +44,9 @@ none NeverRecorded e = refl
 none BadRecord e = refl
 none CutRecord e = refl
 none WrongSlice e = refl
+none CutBill e = refl
+none PastTotal e = refl
+none WrongRecord e = refl
 
 others : (ks : List ℕ) (k n : ℕ) → OneOf ks n → T (not (hasKey ks k)) → eqb n k ≡ false
 others ks k n o h = ne-eqb n k (λ e. miss ks k h (rw e at o))
@@ -55,7 +59,7 @@ returns c = rw (c .before .self .given .1)
 
 returns-2 : tie.Need-returns-2
 returns-2 c =
-    let others-of = others (0 ∷ 1 ∷ 2 ∷ 3 ∷ 4 ∷ 5 ∷ 7 ∷ 8 ∷ 9 ∷ 10 ∷ 11 ∷ 12 ∷ 13 ∷ 14 ∷ 15 ∷ 16 ∷ 17 ∷ 18 ∷ 19 ∷ 20 ∷ []) 6 in
+    let others-of = others (0 ∷ 1 ∷ 2 ∷ 3 ∷ 4 ∷ 5 ∷ 7 ∷ 8 ∷ 9 ∷ 10 ∷ 11 ∷ 12 ∷ 13 ∷ 14 ∷ 15 ∷ 16 ∷ 17 ∷ 18 ∷ 19 ∷ 20 ∷ 21 ∷ 22 ∷ 23 ∷ []) 6 in
     rw (none (c .before .args .self) (others-of _ (c .match .keys2) tt))
 
 pub register-spec : {M : Type 1} → statement M

@@ -15,6 +15,9 @@ with-requires-2 c κs = search needs
 next-requires : tie.Need-next-requires
 next-requires c κs = search needs
 
+with-requires-3 : tie.Need-with-requires-3
+with-requires-3 c κs = search needs
+
 negative-requires : tie.Need-negative-requires
 negative-requires c κs = search needs
 
@@ -46,7 +49,8 @@ returns c =
     let positive = higher2 .before .before in
     let higher = positive .before .before in
     let negative = higher .before .before in
-    let next = negative .before .before in
+    let with3 = negative .before .before in
+    let next = with3 .before .before in
     let told2 = next .before .before in
     let with = told2 .before in
     let r = with .before .before .args .readings in
@@ -56,13 +60,14 @@ returns c =
       read w16 (r .external1) (with .before .struct-told .given .1 .1 .0 .1),
       read w16 (r .external2) (told2 .struct-told2 .given .1 .1 .1 .0 .1),
       next .next .ensures,
+      with3 .with3 .ensures,
       higher .higher .ensures,
       higher .before .in-hundreds .ensures,
       negative .negative .ensures,
       higher2 .higher2 .ensures,
       higher2 .before .in-hundreds2 .ensures,
       positive .positive .ensures,
-      read w32 (r .current) (negative .before .struct-told3 .given .0 .1),
+      read w32 (r .current) (with3 .before .struct-told3 .given .0 .1),
       c .higher3 .ensures,
       c .before .difference .ensures,
     )
@@ -74,6 +79,7 @@ counted-spec =
     with-requires
     with-requires-2
     next-requires
+    with-requires-3
     negative-requires
     in-hundreds-requires
     higher-requires

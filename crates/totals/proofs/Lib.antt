@@ -1,0 +1,4 @@
+pub mod Records
+pub mod Account
+pub mod Blocks
+mod Facts
