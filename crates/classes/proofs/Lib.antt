@@ -1,0 +1,4 @@
+pub mod Pieces
+pub mod Made
+pub mod Rows
+pub mod Sinking
