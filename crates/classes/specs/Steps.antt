@@ -7,8 +7,8 @@ use Rattle.refusals.specs.declared.Refusal.the-variants.{BrokenRules}
 use Rattle.refusals.specs.declared.Outcome.{Outcome}
 use Rattle.refusals.specs.declared.Outcome.the-variants.{Done, Refused}
 use Rattle.settings.specs.declared.Written.{Written}
-use Rattle.editions.specs.Editions.{putIn}
-use Rattle.classes.specs.Store.{recordsIn, editionOf}
+use Rattle.editions.specs.Editions.{editionOf, putIn}
+use Rattle.classes.specs.Store.{recordsIn}
 
 -- the record at a place
 abbrev pub recordAt : List ℕ → ℕ → List ℕ

@@ -1,14 +1,14 @@
 -- Settings by hire class (W-210 of document 02): a store of 16 records of 32 bytes, no header: an edition number (32 bits, 0 for unused),
 -- the twelve listed settings in register order, four zero bytes, all low byte first; unused is all zeros. A record is the list of its bytes.
 -- Assumes nothing.
-use mathlib.Core.Bool.{Bool, _&&_, _||_, not, cond}
+use mathlib.Core.Bool.{Bool, _||_, not, cond}
 use mathlib.Core.List.{List, [], _∷_, _++_, map}
 use mathlib.Core.Path.{_≡_}
 use Prim.Native.Nat.{ℕ, zero, suc, _+_, _*_}
 use lib.Dec.{eqb}
 use lib.ListN.{length, getD, take, drop, set, replicate}
 use Rattle.laws.specs.History.{each, any}
-use Rattle.numbers.specs.Numbers.{le16At, le32At, le16, le32}
+use Rattle.numbers.specs.Numbers.{le16At, le16, le32}
 use Rattle.refusals.specs.declared.Refusal.{Refusal}
 use Rattle.refusals.specs.declared.Refusal.the-variants.{WrongStore, SpoiltStore, NoEdition, BrokenRules, EditionsUsedUp}
 use Rattle.refusals.specs.declared.Outcome.{Outcome}
@@ -18,7 +18,7 @@ use Rattle.settings.specs.declared.Written.{Written}
 use Rattle.settings.specs.Settings.{registerOf}
 use Rattle.writes.specs.declared.Pair.{Pair}
 use Rattle.writes.specs.Writes.{writtenTo}
-use Rattle.editions.specs.Editions.{places, nonzero, isIn, recordFor, repeated, placeFor, nextEdition, usedUp, tidiedBy}
+use Rattle.editions.specs.Editions.{editionOf, spoilt, places, isIn, recordFor, repeated, placeFor, nextEdition, usedUp, tidiedBy}
 use Rattle.classes.specs.declared.Kept.{Kept}
 
 -- ---- a record
@@ -30,10 +30,6 @@ twelve = 301 ∷ 303 ∷ 308 ∷ 315 ∷ 316 ∷ 317 ∷ 318 ∷ 319 ∷ 320 ∷
 -- an edition number (32 bits), the twelve, four zero bytes, all low byte first
 unfoldable pub recordOf : ℕ → Settings → List ℕ
 recordOf edition s = le32 edition ++ each (λ at. le16 (registerOf s at)) twelve ++ replicate 4 0
-
--- the edition number of a record
-unfoldable pub editionOf : List ℕ → ℕ
-editionOf r = le32At r 0
 
 -- ---- a store
 
@@ -60,9 +56,6 @@ abbrev pub editionsIn : List ℕ → List ℕ
 editionsIn store = map editionOf (recordsIn store)
 
 -- ---- 51, store not 512 bytes; 52, two equal nonzero editions, nonzero padding, or edition 0 with a nonzero byte after it
-
-unfoldable pub spoilt : List ℕ → Bool
-spoilt r = any nonzero (drop 28 r) || (eqb (editionOf r) 0 && any nonzero (drop 4 r))
 
 abbrev pub illFormed : List (List ℕ) → Bool
 illFormed rs = repeated (map editionOf rs) || any spoilt rs

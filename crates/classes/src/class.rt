@@ -1,13 +1,10 @@
 // A record of a store: an edition, the twelve settings in register order, four zero bytes, each number low byte first.
 ghost use mathlib.Core.Path.{_≡_};
-ghost use Prim.Native.Nat.{_≤_, _<_};
-ghost use lib.ListN.{getD, drop};
-ghost use Rattle.laws.specs.History.{any};
-ghost use Rattle.editions.specs.Editions.{nonzero};
+ghost use Prim.Native.Nat.{_<_};
+ghost use lib.ListN.{getD};
 ghost use Rattle.writes.specs.Writes.{draftedOf};
-ghost use Rattle.classes.specs.Store.{twelve, recordOf, editionOf, spoilt, recalledPairs};
+ghost use Rattle.classes.specs.Store.{twelve, recordOf, recalledPairs};
 use numbers::low_first_16;
-use numbers::low_first_32;
 use numbers::put_low_first_16;
 use numbers::put_low_first_32;
 use settings::Draft;
@@ -28,12 +25,6 @@ pub(crate) fn record_of(edition: u32, settings: Settings) -> [u8; 32]
     class
 }
 
-pub(crate) fn edition_of(class: [u8; 32]) -> u32
-    ensures { λ r. ⌜ r ≡ editionOf class ⌝ }
-{
-    low_first_32(&class, 0)
-}
-
 // The twelve put into a draft, one by one.
 pub(crate) fn drafted(draft: Draft, class: [u8; 32]) -> Draft
     ensures { λ r. ⌜ r ≡ draftedOf draft (recalledPairs class) ⌝ }
@@ -45,31 +36,6 @@ pub(crate) fn drafted(draft: Draft, class: [u8; 32]) -> Draft
         i += 1;
     }
     all
-}
-
-// Nonzero padding, or edition 0 with a nonzero byte after it.
-pub(crate) fn is_spoilt(class: [u8; 32]) -> bool
-    ensures { λ r. ⌜ r ≡ spoilt class ⌝ }
-{
-    let padding = is_nonzero_from(class, 28);
-    let edition = edition_of(class);
-    let after = is_nonzero_from(class, 4);
-    padding | ((edition == 0) & after)
-}
-
-// Is a byte nonzero, from a place on?
-fn is_nonzero_from(class: [u8; 32], from: usize) -> bool
-    requires { ⌜ from ≤ 32 ⌝ }
-    ensures { λ r. ⌜ r ≡ any nonzero (drop from class) ⌝ }
-{
-    let mut i = from;
-    while i < 32 {
-        if class[i] != 0 {
-            return true;
-        }
-        i += 1;
-    }
-    false
 }
 
 fn register_at(i: usize) -> u16
