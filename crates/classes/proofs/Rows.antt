@@ -5,7 +5,7 @@ use mathlib.Core.List.{List, [], _∷_, _++_}
 use Prim.Native.Nat.{ℕ, _+_, _<_}
 use native.Mathlib.Nat.{zero-add}
 use native.Mathlib.Omega.{arith}
-use borrow.Author.Tests.{eqb-true, ne-eqb, ltb-true, not-false}
+use borrow.Author.Tests.{eqb-true, eq-eqb, ne-eqb, ltb-true, not-false}
 use lib.Dec.{eqb, ltb}
 use lib.ListN.{length, getD, set}
 use Rattle.laws.specs.History.{any}
@@ -51,6 +51,10 @@ sized l h = eqb-true (length l) storeLength (not-false _ (off _ _ _ h .0))
 pub well-formed : (l : List ℕ) → first (storeRows l) ≡ Done → illFormed (recordsIn l) ≡ false
 unfolding storeRows
 well-formed l h = off _ _ _ (off _ _ _ h .1) .0
+
+pub judged-well : (l : List ℕ) → length l ≡ storeLength → illFormed (recordsIn l) ≡ false → first (storeRows l) ≡ Done
+unfolding storeRows first
+judged-well l m h = rw (eq-eqb (length l) storeLength m, h)
 
 -- a place that was found is one of the places
 pub place-is : (s : Bool) (p : ℕ) → (s || not (ltb p places)) ≡ false → p < places

@@ -98,8 +98,11 @@ abbrev pub recalledPairs : List ℕ → List Pair
 recalledPairs r = pairsIn r 12
 
 -- of the record of an edition
+abbrev pub classFor : List ℕ → ℕ → List ℕ
+classFor store edition = recordFor [] editionOf (recordsIn store) edition
+
 abbrev pub pairsFor : List ℕ → ℕ → List Pair
-pairsFor store edition = recalledPairs (recordFor [] editionOf (recordsIn store) edition)
+pairsFor store edition = recalledPairs (classFor store edition)
 
 -- 53, edition not found, or 0
 abbrev pub notFound : List ℕ → ℕ → Bool
