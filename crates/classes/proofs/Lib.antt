@@ -1,3 +1,4 @@
+mod Facts
 pub mod Pieces
 pub mod Made
 pub mod Rows

@@ -36,8 +36,9 @@ module _ (edition : ℕ) (s : Settings) where
       let front = le32 edition ++ each word (take i twelve) in
       let rest : List ℕ = replicate (28 - 2 * (i + 1)) 0 in
       let t : length (take i twelve) ≡ i = length-take-le i twelve (omega arith) in
-      let f : length front ≡ 4 + 2 * i = length-append (le32 edition) (each word (take i twelve)) ∙ ap (λ (n : ℕ). 4 + n) (length-words (take i twelve)
-      ∙ ap (λ (n : ℕ). 2 * n) t) in
+      let f : length front ≡ 4 + 2 * i =
+      length-append (le32 edition) (each word (take i twelve))
+      ∙ ap (λ (n : ℕ). 4 + n) (length-words (take i twelve) ∙ ap (λ (n : ℕ). 2 * n) t) in
       let k : 28 - 2 * i ≡ suc (suc (28 - 2 * (i + 1))) = omega arith in
       let m : length (front ++ 0 ∷ 0 ∷ rest) ≡ 32 = simp (length-append front, length-replicate) (omega arith) in
       let words : each word (take (i + 1) twelve) ≡ each word (take i twelve) ++ le16 value =

@@ -1,19 +1,17 @@
 -- A recall is one write: the twelve of a record are the pairs of a 0x0D request, and what was made of settings gives these settings again,
 -- whatever settings stand. Assumes nothing.
-use mathlib.Core.Path.{_≡_, refl, sym, ap, ap₂, _∙_}
+use mathlib.Core.Path.{_≡_, refl, sym, ap, _∙_}
 use mathlib.Core.Bool.{Bool, true, false, not, cond, false≢true}
 use mathlib.Core.List.{List, [], _∷_, map}
 use Prim.Native.Nat.{ℕ, _+_, _-_, _*_, _/_, _%_, _<_, _≤_}
 use native.Mathlib.Omega.{arith}
 use borrow.Author.Tests.{eqb-true}
-use lib.ListN.{getD}
 use lib.Seq.{ext-getD}
 use lib.Signed.{mag}
 use Rattle.laws.specs.History.{any, headOr, newest}
 use Rattle.laws.proofs.Looking.{none-first, none-after}
 use Rattle.refusals.specs.declared.Outcome.the-variants.{Done}
 use Rattle.settings.specs.declared.Settings.{Settings}
-use Rattle.settings.specs.declared.Written.{Written}
 use Rattle.settings.specs.Settings as settings
 use Rattle.settings.proofs.Drafts.{listed, by-register, unlisted-reads, begun-hundred, begun-at, begun-settings, done-stands}
 use Rattle.settings.proofs.Hundred.{values-length}
@@ -43,7 +41,8 @@ edition-back e s = omega arith
 unnamed : (ps : List Pair) (at stood : ℕ) → any (λ p. not (listed (p .at))) ps ≡ false → listed at ≡ false
     → lastOf stood at (λ v. v) ps ≡ stood
 unnamed [] at stood h u = refl
-unnamed (p ∷ ps) at stood h u = go (names at p) refl (unnamed ps at stood (none-after (not (listed (p .at))) (any (λ p. not (listed (p .at))) ps) h) u)
+unnamed (p ∷ ps) at stood h u =
+    go (names at p) refl (unnamed ps at stood (none-after (not (listed (p .at))) (any (λ p. not (listed (p .at))) ps) h) u)
   where
     go : (t : Bool) → names at p ≡ t → lastOf stood at (λ v. v) ps ≡ stood
         → headOr stood (map (λ p. p .value) (cond t (p ∷ []) (newest (names at) ps))) ≡ stood

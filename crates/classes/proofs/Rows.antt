@@ -25,8 +25,8 @@ use Rattle.writes.proofs.LastPut.{drafted-standing}
 use Rattle.editions.specs.Editions.{spoilt, places, isIn, placeOf, repeated, placeFor, nextEdition, usedUp, Placed, Chosen}
 use Rattle.editions.proofs.Walks.{among}
 use Rattle.classes.specs.declared.Kept.{Kept}
-use Rattle.classes.specs.Store.{recordOf, storeLength, recordsIn, storeOf, editionsIn, illFormed, storeRows, keepRows}
-use Rattle.classes.specs.Store.{keptOf, keptStore, keptBy, Keeps, recalledPairs, pairsFor, notFound, breaksRules, recallRows, recallOf}
+use Rattle.classes.specs.Store.{recordOf, storeLength, recordsIn, storeOf, editionsIn, illFormed, storeRows, keepRows, keptOf}
+use Rattle.classes.specs.Store.{keptStore, keptBy, Keeps, recalledPairs, pairsFor, notFound, breaksRules, recallRows, recallOf}
 use Rattle.classes.specs.Steps.{recordAt, Put, brokenBy, byTheRules}
 use Rattle.classes.proofs.Pieces.{length-editions, all-bytes}
 

@@ -1,5 +1,5 @@
 -- Settings by hire class (W-210 of document 02): a store of 16 records of 32 bytes, no header: an edition number (32 bits, 0 for unused),
--- the twelve listed settings in register order, four zero bytes, all low byte first; unused is all zeros. A record is the list of its bytes.
+-- the twelve listed settings in register order, four zero bytes, all low byte first; unused is all zeros. A record is a list of bytes.
 -- Assumes nothing.
 use mathlib.Core.Bool.{Bool, _||_, not, cond}
 use mathlib.Core.List.{List, [], _∷_, _++_, map}

@@ -77,7 +77,8 @@ pub repeated-asks : Asks repeated (λ e es. nonzero e && isIn e es)
 unfolding repeated
 repeated-asks = record { none = refl; more = λ e es. refl }
 
-pub asked : {n m r e : ℕ} {es : List ℕ} → Placed e es n r → length es ≡ m → n ≤ m → (nonzero e && ltb r m) ≡ (nonzero e && isIn e (drop n es))
+pub asked : {n m r e : ℕ} {es : List ℕ} → Placed e es n r → length es ≡ m → n ≤ m
+    → (nonzero e && ltb r m) ≡ (nonzero e && isIn e (drop n es))
 asked {n} {m} {r} {e} {es} q l h = ap (λ (t : Bool). nonzero e && t) (among q l h)
 
 -- ---- the largest and the smallest

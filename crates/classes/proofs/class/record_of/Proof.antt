@@ -53,7 +53,8 @@ loop-again c =
     let at = value .before in
     let turn = at .before .before .before in (
       search needs,
-      one-laid _ _ (turn .loop .inv .1) (search needs) (at .register-at .ensures) (value .register .ensures) (put .put-low-first-16 .ensures),
+      one-laid _ _ (turn .loop .inv .1) (search needs) (at .register-at .ensures) (value .register .ensures)
+          (put .put-low-first-16 .ensures),
     )
 
 returns : tie.Need-returns Inv-loop μ-loop

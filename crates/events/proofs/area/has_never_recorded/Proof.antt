@@ -49,7 +49,9 @@ loop-again c =
     )
 
 returns-2 : tie.Need-returns-2 Inv-loop μ-loop
-returns-2 c = nowhere noEvent (any-asks neverRecorded) (c .before .loop .inv .1) (omega (arith, length-in (c .before .before .before .args .area .now)))
+returns-2 c =
+    let turn = c .before in
+    nowhere noEvent (any-asks neverRecorded) (turn .loop .inv .1) (omega (arith, length-in (turn .before .before .args .area .now)))
 
 pub has-never-recorded-spec : {M : Type 1} → statement M
 has-never-recorded-spec =

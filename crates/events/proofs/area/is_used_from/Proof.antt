@@ -30,7 +30,8 @@ returns : tie.Need-returns Inv-loop μ-loop
 returns c =
     let test = c .before in
     let turn = test .before .before .before in
-    found noEvent (any-asks used) (turn .loop .inv .1) (omega (arith, length-in (turn .before .before .args .area .now))) (test .is-used .ensures ∙ ap used (test .before .record-in .ensures)) (c .if1 .taken)
+    found noEvent (any-asks used) (turn .loop .inv .1) (omega (arith, length-in (turn .before .before .args .area .now)))
+    (test .is-used .ensures ∙ ap used (test .before .record-in .ensures)) (c .if1 .taken)
 
 add-i : tie.Need-add-i Inv-loop μ-loop
 add-i c = search needs
@@ -48,7 +49,9 @@ loop-again c =
     )
 
 returns-2 : tie.Need-returns-2 Inv-loop μ-loop
-returns-2 c = nowhere noEvent (any-asks used) (c .before .loop .inv .1) (omega (arith, length-in (c .before .before .before .args .area .now)))
+returns-2 c =
+    let turn = c .before in
+    nowhere noEvent (any-asks used) (turn .loop .inv .1) (omega (arith, length-in (turn .before .before .args .area .now)))
 
 pub is-used-from-spec : {M : Type 1} → statement M
 is-used-from-spec =
