@@ -9,7 +9,6 @@ use borrow.Author.Tests.{ne-eqb, leb-false}
 use lib.Dec.{eqb}
 use lib.ListN.{length, getD, drop, set, length-set}
 use Rattle.laws.specs.History.{any, largest}
-use Rattle.refusals.specs.declared.Refusal.the-variants.{NoEdition, BrokenRules}
 use Rattle.refusals.specs.declared.Outcome.{Outcome}
 use Rattle.refusals.specs.declared.Outcome.the-variants.{Done, Refused}
 use Rattle.refusals.specs.Refusals.{isDone, first}
@@ -25,7 +24,7 @@ use Rattle.editions.proofs.Tidied.{same-any, same-length, tidied-same, same-fou
 use Rattle.editions.proofs.Replaced.{any-set, map-set, not-in, at-most, repeated-set, in-set, in-other, for-put, for-other, replaced}
 use Rattle.classes.specs.declared.Kept.{Kept}
 use Rattle.classes.specs.Store.{recordOf, recordLength, recordsIn, storeOf, editionsIn, illFormed, storeRows, keepRows, keptOf}
-use Rattle.classes.specs.Store.{keptStore, Keeps, recalledPairs, classFor, pairsFor, notFound, breaksRules, recallOf, tidiedStore, Tidies}
+use Rattle.classes.specs.Store.{keptStore, Keeps, recalledPairs, classFor, pairsFor, notFound, breaksRules, editionRows, recallOf, tidiedStore, Tidies}
 use Rattle.classes.specs.Laws.{WellFormed, FoundAlike, replacedIn, AfterKeep, AfterTidy, Laws}
 use Rattle.classes.proofs.Pieces.{length-records, length-editions, edition-in, unsized, is-sized, records-sized, records-of}
 use Rattle.classes.proofs.Pieces.{length-store}
@@ -36,7 +35,7 @@ use Rattle.classes.proofs.Recalled.{one-request, edition-back, written-
 
 -- from whether the edition is not found, and what the write of its record comes to
 abbrev outcomeBy : Bool → Written → Outcome
-outcomeBy t w = cond t (Refused NoEdition) (cond (not (isDone (w .outcome))) (Refused BrokenRules) Done)
+outcomeBy t w = first (editionRows t (not (isDone (w .outcome))))
 
 abbrev recallBy : Settings → Bool → Written → Written
 recallBy standing t w = record { outcome = outcomeBy t w; settings = cond (isDone (outcomeBy t w)) (w .settings) standing }
@@ -44,10 +43,10 @@ recallBy standing t w = record { outcome = outcomeBy t w; settings = cond (isDon
 module _ (standing : Settings) where
   recall-by : (store : List ℕ) (e : ℕ) → WellFormed store
       → recallOf standing store e ≡ recallBy standing (notFound store e) (writtenTo standing (pairsFor store e))
-  unfolding recallOf first
+  unfolding recallOf
   recall-by store e h =
       ap (λ (o : Outcome). record { outcome = o; settings = cond (isDone o) (writtenTo standing (pairsFor store e) .settings) standing })
-      (first-append (storeRows store) ((NoEdition, notFound store e) ∷ (BrokenRules, breaksRules standing (pairsFor store e)) ∷ [])
+      (first-append (storeRows store) (editionRows (notFound store e) (breaksRules standing (pairsFor store e)))
       ∙ ap (λ (o : Outcome). andThen o (outcomeBy (notFound store e) (writtenTo standing (pairsFor store e)))) h)
 
   recalled-alike : (store other : List ℕ) (e : ℕ) → WellFormed store → WellFormed other → FoundAlike e store other
@@ -60,9 +59,10 @@ module _ (standing : Settings) where
   -- where it is done it is the write
   is-write : (t : Bool) (o : Outcome) (s : Settings) → outcomeBy t (record { outcome = o; settings = s }) ≡ Done
       → recallBy standing t (record { outcome = o; settings = s }) ≡ record { outcome = o; settings = s }
-  is-write true o s e = absurd (refused-not NoEdition e)
+  unfolding first
+  is-write true o s e = absurd (refused-not _ e)
   is-write false Done s e = refl
-  is-write false (Refused refusal) s e = absurd (refused-not BrokenRules e)
+  is-write false (Refused refusal) s e = absurd (refused-not _ e)
 
   recalling : (store : List ℕ) (e : ℕ) → recallOf standing store e .outcome ≡ Done
       → recallOf standing store e ≡ writtenTo standing (pairsFor store e)
@@ -196,6 +196,7 @@ module _ {s : Settings} {before after : List ℕ} {r : Kept} (k : Keeps s before
       )
 
   keeping : AfterKeep s before after (r .edition)
+  unfolding first
   keeping =
       subst⁻¹ (AfterKeep s before after) edition-is
       record {

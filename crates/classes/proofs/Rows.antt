@@ -10,7 +10,7 @@ use lib.Dec.{eqb, ltb}
 use lib.ListN.{length, getD, set}
 use Rattle.laws.specs.History.{any}
 use Rattle.refusals.specs.declared.Refusal.{Refusal}
-use Rattle.refusals.specs.declared.Refusal.the-variants.{WrongStore, SpoiltStore, NoEdition, BrokenRules, EditionsUsedUp}
+use Rattle.refusals.specs.declared.Refusal.the-variants.{BrokenRules, EditionsUsedUp}
 use Rattle.refusals.specs.declared.Outcome.{Outcome}
 use Rattle.refusals.specs.declared.Outcome.the-variants.{Done, Refused}
 use Rattle.refusals.specs.Refusals.{isDone, first}
@@ -26,22 +26,15 @@ use Rattle.editions.specs.Editions.{spoilt, places, isIn, placeOf, repeated, pl
 use Rattle.editions.proofs.Walks.{among}
 use Rattle.classes.specs.declared.Kept.{Kept}
 use Rattle.classes.specs.Store.{recordOf, storeLength, recordsIn, storeOf, editionsIn, illFormed, storeRows, keepRows, keptOf}
-use Rattle.classes.specs.Store.{keptStore, keptBy, Keeps, recalledPairs, pairsFor, notFound, breaksRules, recallRows, recallOf}
+use Rattle.classes.specs.Store.{keptStore, keptBy, Keeps, recalledPairs, pairsFor, notFound, breaksRules, editionRows, recallRows, recallOf}
 use Rattle.classes.specs.Steps.{recordAt, Put, brokenBy, byTheRules}
 use Rattle.classes.proofs.Pieces.{length-editions, all-bytes}
 
 -- ---- 51 and 52
 
-pub wrong-store : (l : List ℕ) → (length l ≡ storeLength → ⊥) → Refused WrongStore ≡ first (storeRows l)
-unfolding storeRows first
-wrong-store l h = rw (ne-eqb (length l) storeLength h)
-
-pub decided : (l : List ℕ) {a b t : Bool} {es : List ℕ} → length l ≡ storeLength → es ≡ editionsIn l → a ≡ repeated es
-    → b ≡ any spoilt (recordsIn l) → (a || b) ≡ t → cond t (Refused SpoiltStore) Done ≡ first (storeRows l)
-unfolding storeRows first
-decided l {a} {b} {t} {es} m q p s e =
-    ap (λ (t : Bool). cond t (Refused SpoiltStore) Done) (sym e ∙ ap₂ _||_ (p ∙ ap repeated q) s)
-    ∙ ap (λ (n : ℕ). first ((WrongStore, not (eqb n storeLength)) ∷ (SpoiltStore, illFormed (recordsIn l)) ∷ [])) (sym m)
+pub ill-is : (l : List ℕ) {a b t : Bool} {es : List ℕ} → es ≡ editionsIn l → a ≡ repeated es → b ≡ any spoilt (recordsIn l) → (a || b) ≡ t
+    → illFormed (recordsIn l) ≡ t
+ill-is l q p s e = sym (ap₂ _||_ (p ∙ ap repeated q) s) ∙ e
 
 -- a store that neither applies to has its 512 bytes, and is well formed
 pub sized : (l : List ℕ) → first (storeRows l) ≡ Done → length l ≡ storeLength
@@ -149,7 +142,7 @@ module _ (l : List ℕ) {o : Outcome} (q : o ≡ first (storeRows l)) where
 
     pub recall-refused : isDone o ≡ false → _≡_ {A = Written} (record { outcome = o; settings = st }) (recallOf st l e)
     recall-refused z =
-        recalls (stops ((NoEdition, notFound l e) ∷ (BrokenRules, breaksRules st (pairsFor l e)) ∷ []) z)
+        recalls (stops (editionRows (notFound l e) (breaksRules st (pairsFor l e))) z)
         (ap (λ (t : Bool). cond t (writtenTo st (pairsFor l e) .settings) st) (sym z))
 
     module _ {p : ℕ} {es : List ℕ} (z : isDone o ≡ true) (d : es ≡ editionsIn l) (a : Placed e es 0 p) where
@@ -159,19 +152,20 @@ module _ (l : List ℕ) {o : Outcome} (q : o ≡ first (storeRows l)) where
           (among a (ap length d ∙ length-editions l) (omega arith) ∙ ap (isIn e) d)
 
       last-two : {t : Bool} → (eqb e 0 || not (ltb p places)) ≡ t
-          → first (recallRows st l e) ≡ cond t (Refused NoEdition) (cond (breaksRules st (pairsFor l e)) (Refused BrokenRules) Done)
-      unfolding first
+          → first (recallRows st l e) ≡ first (editionRows t (breaksRules st (pairsFor l e)))
       last-two k =
-          goes-on ((NoEdition, notFound l e) ∷ (BrokenRules, breaksRules st (pairsFor l e)) ∷ []) z
-          ∙ ap (λ (t : Bool). cond t (Refused NoEdition) (cond (breaksRules st (pairsFor l e)) (Refused BrokenRules) Done)) (sym test ∙ k)
+          goes-on (editionRows (notFound l e) (breaksRules st (pairsFor l e))) z
+          ∙ ap (λ (t : Bool). first (editionRows t (breaksRules st (pairsFor l e)))) (sym test ∙ k)
 
       pub not-found : (eqb e 0 || not (ltb p places)) ≡ true
-          → _≡_ {A = Written} (record { outcome = Refused NoEdition; settings = st }) (recallOf st l e)
+          → _≡_ {A = Written} (record { outcome = first (editionRows true (breaksRules st (pairsFor l e))); settings = st }) (recallOf st l e)
+      unfolding first
       not-found k = recalls (last-two k) refl
 
       pub taken : {r : List ℕ} {d₀ d₁ : Draft} {w w₁ : Written} → (eqb e 0 || not (ltb p places)) ≡ false → r ≡ recordAt l p
           → d₀ ≡ settings.draftOf st → d₁ ≡ draftedOf d₀ (recalledPairs r) → w ≡ settings.writtenOf d₁ → w₁ ≡ byTheRules w
           → w₁ ≡ recallOf st l e
+      unfolding first
       taken {r} {d₀} {d₁} {w} {w₁} k i b f g h =
           let place : p ≡ placeOf e (editionsIn l) = a .place ∙ zero-add (placeOf e es) ∙ ap (placeOf e) d in
           let pairs = pairsFor l e in

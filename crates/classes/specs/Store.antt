@@ -112,9 +112,12 @@ notFound store edition = eqb edition 0 || not (isIn edition (editionsIn store))
 abbrev pub breaksRules : Settings → List Pair → Bool
 breaksRules standing ps = not (isDone (writtenTo standing ps .outcome))
 
+abbrev pub editionRows : Bool → Bool → List (Refusal × Bool)
+editionRows missing broken = (NoEdition, missing) ∷ (BrokenRules, broken) ∷ []
+
 abbrev pub recallRows : Settings → List ℕ → ℕ → List (Refusal × Bool)
 recallRows standing store edition =
-    storeRows store ++ ((NoEdition, notFound store edition) ∷ (BrokenRules, breaksRules standing (pairsFor store edition)) ∷ [])
+    storeRows store ++ editionRows (notFound store edition) (breaksRules standing (pairsFor store edition))
 
 -- writes all twelve under 01's rules; refused, nothing changed
 unfoldable pub recallOf : Settings → List ℕ → ℕ → Written

@@ -1,5 +1,5 @@
-mod Facts
 pub mod Walks
 pub mod Order
 pub mod Tidied
 pub mod Replaced
+mod Facts
