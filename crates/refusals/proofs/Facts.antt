@@ -29,8 +29,8 @@ frame-replies = refl
 -- of a tick and of a start; of the raw line; of an area; of a store; of a recording; of a cabinet's slice; of records of hires
 others : List Refusal
 others =
-    WrongCells ∷ WrongCurrent ∷ NoInternal ∷ WrongPulses ∷ NoBoard ∷ FrameHeld ∷ NoFrameHeld ∷ WrongArea ∷ UsedAfterUnused ∷ NeverRecorded ∷ WrongStore ∷ SpoiltStore ∷ NoEdition ∷ BrokenRules ∷ EditionsUsedUp
-    ∷ BadRecord ∷ CutRecord ∷ WrongSlice ∷ CutBill ∷ PastTotal ∷ WrongRecord ∷ []
+    WrongCells ∷ WrongCurrent ∷ NoInternal ∷ WrongPulses ∷ NoBoard ∷ FrameHeld ∷ NoFrameHeld ∷ WrongArea ∷ UsedAfterUnused ∷ NeverRecorded
+    ∷ WrongStore ∷ SpoiltStore ∷ NoEdition ∷ BrokenRules ∷ EditionsUsedUp ∷ BadRecord ∷ CutRecord ∷ WrongSlice ∷ CutBill ∷ PastTotal ∷ WrongRecord ∷ []
 
 other-numbers : map refusalNumber others ≡ 11 ∷ 12 ∷ 13 ∷ 14 ∷ 21 ∷ 6 ∷ 7 ∷ 31 ∷ 32 ∷ 33 ∷ 51 ∷ 52 ∷ 53 ∷ 54 ∷ 55 ∷ 61 ∷ 62 ∷ 71 ∷ 81 ∷ 82 ∷ 83 ∷ []
 unfolding others

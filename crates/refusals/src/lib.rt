@@ -22,10 +22,10 @@ pub enum Refusal {
     UsedAfterUnused, // a used record after an unused one
     NeverRecorded, // an event number that the board never records
     WrongStore, // a store that is not of 512 bytes
-    SpoiltStore, // two equal nonzero editions, nonzero padding, or edition 0 with a nonzero byte after it
+    SpoiltStore, // a store with an edition twice, or nonzero where zero is asked
     NoEdition, // an edition that is not found, or 0
-    BrokenRules, // its settings break the rules
-    EditionsUsedUp, // at 2^32 - 1
+    BrokenRules, // an edition whose settings break the rules
+    EditionsUsedUp, // no edition is left
     BadRecord, // a bad record of a recording
     CutRecord, // a cut last record
     WrongSlice, // not of a cabinet's twenty registers
