@@ -24,8 +24,7 @@ use Rattle.editions.proofs.Tidied.{same-any, same-length, tidied-same, same-fou
 use Rattle.editions.proofs.Replaced.{any-set, map-set, not-in, at-most, repeated-set, in-set, in-other, for-put, for-other, replaced}
 use Rattle.classes.specs.declared.Kept.{Kept}
 use Rattle.classes.specs.Store.{recordOf, recordLength, recordsIn, storeOf, editionsIn, illFormed, storeRows, keepRows, keptOf}
-use Rattle.classes.specs.Store.{keptStore, Keeps, recalledPairs, classFor, pairsFor, notFound, breaksRules, editionRows, recallRows, recallOf}
-use Rattle.classes.specs.Store.{tidiedStore, Tidies}
+use Rattle.classes.specs.Store.{keptStore, Keeps, recalledPairs, classFor, pairsFor, notFound, breaksRules, editionRows, recallOf, tidiedStore, Tidies}
 use Rattle.classes.specs.Laws.{WellFormed, FoundAlike, replacedIn, AfterKeep, AfterTidy, Laws}
 use Rattle.classes.proofs.Pieces.{length-records, length-editions, edition-in, unsized, is-sized, records-sized, records-of}
 use Rattle.classes.proofs.Pieces.{length-store}
@@ -284,9 +283,3 @@ laws =
       tidy-refused = λ before outcome after t z.
           t .store ∙ ap (λ (u : Bool). cond u (tidiedStore before) before) (sym (ap isDone (t .outcome-is)) ∙ z);
     }
-
--- so where no row of a recall applies, its write is accepted
-pub recall-writes : (standing : Settings) (store : List ℕ) (edition : ℕ) → first (recallRows standing store edition) ≡ Done
-    → writtenTo standing (pairsFor store edition) .outcome ≡ Done
-unfolding recallOf
-recall-writes standing store edition e = sym (ap (λ (w : Written). w .outcome) (laws .recalling standing store edition e)) ∙ e
