@@ -33,8 +33,8 @@ wrong-store : (first (storeRows []) ≡ Refused WrongStore) × (first (storeRows
 unfolding storeRows first recordsIn editionOf repeated spoilt empty
 wrong-store = (refl, refl, refl, refl)
 
--- 52: nonzero padding, of the first record and of the last; edition 0 with a nonzero byte after it, the first and the last; two equal nonzero
--- editions, first and last
+-- 52: nonzero padding, of the first record and of the last; edition 0 with a nonzero byte after it, the first and the last; two equal
+-- nonzero editions, first and last
 spoilt-store : (first (storeRows (set (with 0 (1 ∷ [])) 28 1)) ≡ Refused SpoiltStore)
     × (first (storeRows (set (with 480 (1 ∷ [])) 511 1)) ≡ Refused SpoiltStore) × (first (storeRows (set (with 480 (1 ∷ [])) 507 1)) ≡ Done)
     × (first (storeRows (with 4 (1 ∷ []))) ≡ Refused SpoiltStore) × (first (storeRows (with 511 (1 ∷ []))) ≡ Refused SpoiltStore)
@@ -63,7 +63,8 @@ unfolding recall kept storeRows first recordsIn storeOf editionOf repeated spoil
 no-edition = (refl, refl, refl, refl, refl, refl)
 
 -- 54: 301 one below its range; 316 one above 301, against the order
-broken : (recall (sets kept 4 (0xE7 ∷ 0x03 ∷ [])) 1 ≡ Refused BrokenRules) × (recall (sets kept 12 (0xE9 ∷ 0x03 ∷ [])) 1 ≡ Refused BrokenRules)
+broken : (recall (sets kept 4 (0xE7 ∷ 0x03 ∷ [])) 1 ≡ Refused BrokenRules)
+    × (recall (sets kept 12 (0xE9 ∷ 0x03 ∷ [])) 1 ≡ Refused BrokenRules)
     × (recall (sets kept 12 (0xE8 ∷ 0x03 ∷ [])) 1 ≡ Done)
 unfolding recall kept storeRows first recordsIn storeOf editionOf repeated spoilt empty placeFor keptOf recordOf registerOf bitsOf fromBits
     pairsIn draftedOf putOf judgedOf isOut fits registers valuesOf settingsOf ordered
@@ -84,8 +85,9 @@ two-at-once = (refl, refl, refl, refl, refl, refl)
 -- 1 in an empty store: every byte of the record, and nothing after it. -40 is 65,496 as its sixteen bits
 first-kept : (keptBy empty ≡ record { outcome = Done; edition = 1 })
     × (kept
-    ≡ (1 ∷ 0 ∷ 0 ∷ 0 ∷ 0xE8 ∷ 3 ∷ 0xE8 ∷ 3 ∷ 15 ∷ 0 ∷ 0xB0 ∷ 4 ∷ 0x20 ∷ 3 ∷ 1 ∷ 0 ∷ 1 ∷ 0 ∷ 20 ∷ 0 ∷ 0xD8 ∷ 0xFF ∷ 1 ∷ 0 ∷ 0 ∷ 0 ∷ 1 ∷ 0 ∷ 0 ∷ 0 ∷ 0 ∷ 0
-    ∷ []) ++ replicate 480 0)
+    ≡ (1 ∷ 0 ∷ 0 ∷ 0 ∷ [])
+    ++ (0xE8 ∷ 3 ∷ 0xE8 ∷ 3 ∷ 15 ∷ 0 ∷ 0xB0 ∷ 4 ∷ 0x20 ∷ 3 ∷ 1 ∷ 0 ∷ 1 ∷ 0 ∷ 20 ∷ 0 ∷ 0xD8 ∷ 0xFF ∷ 1 ∷ 0 ∷ 0 ∷ 0 ∷ 1 ∷ 0 ∷ [])
+    ++ (0 ∷ 0 ∷ 0 ∷ 0 ∷ []) ++ replicate 480 0)
 unfolding kept storeRows first recordsIn storeOf editionOf repeated spoilt empty placeFor keptOf recordOf registerOf bitsOf
 first-kept = (refl, refl)
 
@@ -109,8 +111,8 @@ smallest-replaced = refl
 -- all twelve, as one write; one that is refused leaves all that stood
 recalled : (recallOf maximum kept 1 ≡ record { outcome = Done; settings = minimum })
     × (recallOf maximum (sets kept 26 (8 ∷ 0 ∷ [])) 1 ≡ record { outcome = Refused BrokenRules; settings = maximum })
-unfolding recallOf kept storeRows first recordsIn storeOf editionOf repeated spoilt empty placeFor keptOf recordOf registerOf bitsOf fromBits
-    pairsIn draftedOf putOf judgedOf isOut fits registers valuesOf settingsOf ordered standingOf
+unfolding recallOf kept storeRows first recordsIn storeOf editionOf repeated spoilt empty placeFor keptOf recordOf registerOf bitsOf
+    fromBits pairsIn draftedOf putOf judgedOf isOut fits registers valuesOf settingsOf ordered standingOf
 recalled = (refl, refl)
 
 -- ---- tidying

@@ -2,7 +2,7 @@
 -- Assumes nothing.
 use mathlib.Core.Path.{_≡_, refl, sym, ap, ap₂, _∙_, subst⁻¹}
 use mathlib.Core.Bool.{Bool, true, false, _&&_, _||_, not, cond, false≢true}
-use mathlib.Core.List.{List, [], _∷_, map, List·Permᴰ}
+use mathlib.Core.List.{List, [], map, List·Permᴰ}
 use Prim.Native.Nat.{ℕ}
 use native.Mathlib.Omega.{arith}
 use borrow.Author.Tests.{ne-eqb, leb-false}
@@ -24,7 +24,8 @@ use Rattle.editions.proofs.Tidied.{same-any, same-length, tidied-same, same-fou
 use Rattle.editions.proofs.Replaced.{any-set, map-set, not-in, at-most, repeated-set, in-set, in-other, for-put, for-other, replaced}
 use Rattle.classes.specs.declared.Kept.{Kept}
 use Rattle.classes.specs.Store.{recordOf, recordLength, recordsIn, storeOf, editionsIn, illFormed, storeRows, keepRows, keptOf}
-use Rattle.classes.specs.Store.{keptStore, Keeps, recalledPairs, classFor, pairsFor, notFound, breaksRules, editionRows, recallOf, tidiedStore, Tidies}
+use Rattle.classes.specs.Store.{keptStore, Keeps, recalledPairs, classFor, pairsFor, notFound, breaksRules, editionRows, recallOf}
+use Rattle.classes.specs.Store.{tidiedStore, Tidies}
 use Rattle.classes.specs.Laws.{WellFormed, FoundAlike, replacedIn, AfterKeep, AfterTidy, Laws}
 use Rattle.classes.proofs.Pieces.{length-records, length-editions, edition-in, unsized, is-sized, records-sized, records-of}
 use Rattle.classes.proofs.Pieces.{length-store}

@@ -5,7 +5,7 @@ use mathlib.Core.List.{List, [], _∷_, _++_}
 use Prim.Native.Nat.{ℕ, _+_, _<_}
 use native.Mathlib.Nat.{zero-add}
 use native.Mathlib.Omega.{arith}
-use borrow.Author.Tests.{eqb-true, eq-eqb, ne-eqb, ltb-true, not-false}
+use borrow.Author.Tests.{eqb-true, eq-eqb, ltb-true, not-false}
 use lib.Dec.{eqb, ltb}
 use lib.ListN.{length, getD, set}
 use Rattle.laws.specs.History.{any}
@@ -22,12 +22,13 @@ use Rattle.settings.specs.Settings as settings
 use Rattle.settings.proofs.Drafts.{refused-stands}
 use Rattle.writes.specs.Writes.{draftedOf, writtenTo}
 use Rattle.writes.proofs.LastPut.{drafted-standing}
-use Rattle.editions.specs.Editions.{spoilt, places, isIn, placeOf, repeated, placeFor, nextEdition, usedUp, Placed, Chosen}
+use Rattle.editions.specs.Editions.{spoilt, places, isIn, placeOf, repeated, placeFor, nextEdition, usedUp, Placed}
 use Rattle.editions.proofs.Walks.{among}
 use Rattle.classes.specs.declared.Kept.{Kept}
 use Rattle.classes.specs.Store.{recordOf, storeLength, recordsIn, storeOf, editionsIn, illFormed, storeRows, keepRows, keptOf}
-use Rattle.classes.specs.Store.{keptStore, keptBy, Keeps, recalledPairs, pairsFor, notFound, breaksRules, editionRows, recallRows, recallOf}
-use Rattle.classes.specs.Steps.{recordAt, Put, brokenBy, byTheRules}
+use Rattle.classes.specs.Store.{keptStore, keptBy, Keeps, recalledPairs, pairsFor, notFound, breaksRules, editionRows}
+use Rattle.classes.specs.Store.{recallRows, recallOf}
+use Rattle.classes.specs.Steps.{recordAt, PutAt, brokenBy, byTheRules}
 use Rattle.classes.proofs.Pieces.{length-editions, all-bytes}
 
 -- ---- 51 and 52
@@ -109,7 +110,7 @@ module _ (l : List ℕ) {o : Outcome} (q : o ≡ first (storeRows l)) where
         go true e i = record { gives = gives (last-row e) k; store = leaves s (last-row e) refl }
         go false e i = absurd (omega arith)
 
-    pub kept : {s : Settings} {p : ℕ} {r l₁ : List ℕ} → (n ≡ 0 → ⊥) → Chosen es p → r ≡ recordOf n s → Put l p r l₁
+    pub kept : {s : Settings} {p : ℕ} {r l₁ : List ℕ} → (n ≡ 0 → ⊥) → p ≡ placeFor es → r ≡ recordOf n s → PutAt l p r l₁
         → Keeps s l (record { outcome = o; edition = n }) l₁
     unfolding keptOf
     kept {s} {p} {r} {l₁} k a w u = go (usedUp (editionsIn l)) refl by-edition
@@ -119,7 +120,7 @@ module _ (l : List ℕ) {o : Outcome} (q : o ≡ first (storeRows l)) where
         go true e i = absurd (k i)
         go false e i =
             let done : first (keepRows l) ≡ o = last-row e ∙ sym (done-is o z) in
-            let place : p ≡ placeFor (editionsIn l) = a .place ∙ ap placeFor d in
+            let place : p ≡ placeFor (editionsIn l) = a ∙ ap placeFor d in
             let new : r ≡ recordOf (nextEdition (editionsIn l)) s = w ∙ ap (λ (n : ℕ). recordOf n s) i in
             record {
               gives = gives done (i ∙ ap (λ (t : Bool). cond t (nextEdition (editionsIn l)) 0) (sym z));
@@ -158,7 +159,8 @@ module _ (l : List ℕ) {o : Outcome} (q : o ≡ first (storeRows l)) where
           ∙ ap (λ (t : Bool). first (editionRows t (breaksRules st (pairsFor l e)))) (sym test ∙ k)
 
       pub not-found : (eqb e 0 || not (ltb p places)) ≡ true
-          → _≡_ {A = Written} (record { outcome = first (editionRows true (breaksRules st (pairsFor l e))); settings = st }) (recallOf st l e)
+          → _≡_ {A = Written} (record { outcome = first (editionRows true (breaksRules st (pairsFor l e))); settings = st })
+          (recallOf st l e)
       unfolding first
       not-found k = recalls (last-two k) refl
 

@@ -15,7 +15,7 @@ abbrev pub recordAt : List ℕ → ℕ → List ℕ
 recordAt store i = getD (recordsIn store) i []
 
 -- one record put
-pub record Put (before : List ℕ) (i : ℕ) (r after : List ℕ) : Type 0 where
+pub record PutAt (before : List ℕ) (i : ℕ) (r after : List ℕ) : Type 0 where
   pub same : length after ≡ length before
   pub records : recordsIn after ≡ set (recordsIn before) i r
 

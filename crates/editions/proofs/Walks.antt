@@ -15,7 +15,7 @@ use Rattle.laws.specs.Fold.{gather}
 use Rattle.laws.specs.History.{largest}
 use Rattle.laws.proofs.Folds.{Gathered, done}
 use Rattle.laws.proofs.Looking.{Asks}
-use Rattle.editions.specs.Editions.{places, nonzero, isIn, placeOf, repeated, smallest, placeFor, Placed, Chosen}
+use Rattle.editions.specs.Editions.{places, nonzero, isIn, placeOf, repeated, smallest, placeFor, Placed}
 
 -- ---- the place of an edition
 
@@ -135,18 +135,19 @@ place-within es h = go (isIn 0 es) refl
     go true e = ltb-true (placeOf 0 es) (length es) (in-place 0 es ∙ e)
     go false e = ltb-true (placeOf (smallest es) es) (length es) (in-place (smallest es) es ∙ smallest-in es h)
 
-pub unused-chosen : {r : ℕ} {es : List ℕ} → length es ≡ places → Placed 0 es 0 r → r < places → Chosen es r
+pub unused-chosen : {r : ℕ} {es : List ℕ} → length es ≡ places → Placed 0 es 0 r → r < places
+    → (r ≡ placeFor es) × (r < places)
 unfolding placeFor
 unused-chosen {r} {es} l q h =
     let k : isIn 0 es ≡ true = sym (among q l (omega arith)) ∙ lt-ltb r places h in
-    record { place = q .place ∙ rw k (omega arith); within = h }
+    (q .place ∙ rw k (omega arith), h)
 
 pub smallest-chosen : {r r₁ s : ℕ} {es : List ℕ} → length es ≡ places → Placed 0 es 0 r → places ≤ r → s ≡ smallest es → Placed s es 0 r₁
-    → Chosen es r₁
+    → (r₁ ≡ placeFor es) × (r₁ < places)
 unfolding placeFor
 smallest-chosen {r} {r₁} {s} {es} l q h e q₁ =
     let k : isIn 0 es ≡ false = sym (among q l (omega arith)) ∙ le-ltb r places h in
     let m = q₁ .place in
     let n = ap (λ (s : ℕ). placeOf s es) e in
     let whole : r₁ ≡ placeFor es = rw k (omega arith) in
-    record { place = whole; within = let b = place-within es (omega arith) in omega arith }
+    (whole, let b = place-within es (omega arith) in omega arith)
