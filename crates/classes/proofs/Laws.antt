@@ -5,14 +5,14 @@ use mathlib.Core.Bool.{Bool, true, false, _&&_, _||_, not, cond, false≢true}
 use mathlib.Core.List.{List, [], map, List·Permᴰ}
 use Prim.Native.Nat.{ℕ}
 use native.Mathlib.Omega.{arith}
-use borrow.Author.Tests.{ne-eqb, leb-false}
+use borrow.Author.Tests.{ne-eqb, leb-false, not-false}
 use lib.Dec.{eqb}
 use lib.ListN.{length, getD, drop, set, length-set}
 use Rattle.laws.specs.History.{any, largest}
 use Rattle.refusals.specs.declared.Outcome.{Outcome}
 use Rattle.refusals.specs.declared.Outcome.the-variants.{Done, Refused}
 use Rattle.refusals.specs.Refusals.{isDone, first}
-use Rattle.refusals.proofs.Rows.{refused-not, off, off-both, andThen, first-append}
+use Rattle.refusals.proofs.Rows.{done-is, refused-not, off, off-both, andThen, first-append}
 use Rattle.settings.specs.declared.Settings.{Settings}
 use Rattle.settings.specs.declared.Written.{Written}
 use Rattle.writes.specs.Writes.{writtenTo}
@@ -24,8 +24,8 @@ use Rattle.editions.proofs.Tidied.{same-any, same-length, tidied-same, same-fou
 use Rattle.editions.proofs.Replaced.{any-set, map-set, not-in, at-most, repeated-set, in-set, in-other, for-put, for-other, replaced}
 use Rattle.classes.specs.declared.Kept.{Kept}
 use Rattle.classes.specs.Store.{recordOf, recordLength, recordsIn, storeOf, editionsIn, illFormed, storeRows, keepRows, keptOf}
-use Rattle.classes.specs.Store.{keptStore, Keeps, recalledPairs, classFor, pairsFor, notFound, breaksRules, editionRows, recallOf}
-use Rattle.classes.specs.Store.{tidiedStore, Tidies}
+use Rattle.classes.specs.Store.{keptStore, Keeps, recalledPairs, classFor, pairsFor, notFound, breaksRules, editionRows, recallRows}
+use Rattle.classes.specs.Store.{recallOf, tidiedStore, Tidies}
 use Rattle.classes.specs.Laws.{WellFormed, FoundAlike, replacedIn, AfterKeep, AfterTidy, Laws}
 use Rattle.classes.proofs.Pieces.{length-records, length-editions, edition-in, unsized, is-sized, records-sized, records-of}
 use Rattle.classes.proofs.Pieces.{length-store}
@@ -73,6 +73,12 @@ module _ (standing : Settings) where
       let well = off-both (storeRows store) _ h .0 in
       recall-by store e well
       ∙ is-write (notFound store e) (w .outcome) (w .settings) (sym (ap (λ (x : Written). x .outcome) (recall-by store e well)) ∙ h)
+
+  -- so a recall whose rows come to nothing is a write that is taken
+  pub taken : (store : List ℕ) (e : ℕ) → first (recallRows standing store e) ≡ Done → writtenTo standing (pairsFor store e) .outcome ≡ Done
+  taken store e h =
+      let rows = editionRows (notFound store e) (breaksRules standing (pairsFor store e)) in
+      done-is _ (not-false _ (off _ _ _ (off _ _ _ (off-both (storeRows store) rows h .1) .1) .0))
 
 -- ---- records in a store
 
@@ -204,6 +210,7 @@ module _ {s : Settings} {before after : List ℕ} {r : Kept} (k : Keeps s before
         well-formed = after-well;
         larger = λ e h. let m = at-most e es h in omega arith;
         fits = let m = leb-false lastEdition (largest es) left in omega arith;
+        found = (found-new, class-new);
         others = found-others;
         recalled = λ standing rules held.
             recall-by standing after new after-well

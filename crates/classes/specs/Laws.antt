@@ -18,7 +18,8 @@ use Rattle.writes.specs.declared.Pair.{Pair}
 use Rattle.writes.specs.Writes.{pairsOf, allSettings, keepsRules, writtenTo}
 use Rattle.editions.specs.Editions.{places, isIn, smallest}
 use Rattle.classes.specs.declared.Kept.{Kept}
-use Rattle.classes.specs.Store.{recordsIn, editionsIn, storeRows, Keeps, recalledPairs, classFor, pairsFor, recallOf, Tidies}
+use Rattle.classes.specs.Store.{recordOf, recordsIn, editionsIn, storeRows, Keeps, recalledPairs, classFor, pairsFor, recallOf}
+use Rattle.classes.specs.Store.{Tidies}
 
 -- 512 bytes, no edition twice, and zero where zero is asked
 abbrev pub WellFormed : List ℕ → Type 0
@@ -39,6 +40,8 @@ pub record AfterKeep (s : Settings) (before after : List ℕ) (edition : ℕ) : 
   -- the new edition is larger than all others, and fits 32 bits
   pub larger : (e : ℕ) → isIn e (editionsIn before) ≡ true → e < edition
   pub fits : edition < 4294967296
+  -- it is found, with its record
+  pub found : (isIn edition (editionsIn after) ≡ true) × (classFor after edition ≡ recordOf edition s)
   -- every edition but the replaced one is found as before
   pub others : (e : ℕ) → (e ≡ edition → ⊥) → (e ≡ replacedIn before → ⊥) → FoundAlike e after before
   -- a recall of the new edition gives the settings that were kept, whatever settings stand; they keep the rules, and 320 has its 16 bits
