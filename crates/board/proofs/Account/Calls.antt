@@ -15,7 +15,7 @@ use Rattle.refusals.specs.Refusals.{isDone, first}
 use Rattle.refusals.proofs.Rows.{refused-not, done-is, off}
 use Rattle.cells.specs.Cells.{extremesOf, decisionOf}
 use Rattle.classes.specs.Store.{pairsFor}
-use Rattle.classes.proofs.Laws.{recall-writes}
+use Rattle.classes.proofs.Laws as classes
 use Rattle.events.specs.declared.Event.{Event}
 use Rattle.events.specs.Events.{capacity, noEvent, noEvents, sentOf}
 use Rattle.events.specs.Area.{listOf, eventsIn}
@@ -225,7 +225,7 @@ module _ (cells perKm : ℕ) where
     goes (load area) e = loaded-goes h (eventsIn area) (few-events area)
     goes (cabinet n) e = refl
     goes (keep store) e = refl
-    goes (recall store edition) e = written-goes (pairsFor store edition) (recall-writes (settingsAt h) store edition e)
+    goes (recall store edition) e = written-goes (pairsFor store edition) (classes.taken (settingsAt h) store edition e)
 
     called : (c : Call) → boardAfter before c ≡ boardAt cells perKm (calling cells perKm h c)
     unfolding boardBy calling

@@ -14,7 +14,7 @@ use Rattle.refusals.specs.declared.Outcome.{Outcome}
 use Rattle.refusals.specs.declared.Outcome.the-variants.{Done, Refused}
 use Rattle.refusals.specs.Refusals.{isDone, first}
 use Rattle.refusals.proofs.Rows.{refused-not, done-is, off}
-use Rattle.classes.proofs.Laws.{recall-writes}
+use Rattle.classes.proofs.Laws as classes
 use Rattle.events.specs.declared.Event.{Event}
 use Rattle.events.specs.Area.{neitherArea, recordsIn, usedOf, parted, neverRecorded, loadRows}
 use Rattle.readings.specs.declared.Readings.{Readings}
@@ -96,7 +96,7 @@ module _ (cells perKm : ℕ) where
     done-may (save n) u e = tt
     done-may (cabinet n) u e = tt
     done-may (keep store) u e = tt
-    done-may (recall store edition) u e = (recall-writes (b .pack .settings) store edition e, tt)
+    done-may (recall store edition) u e = (classes.taken (b .pack .settings) store edition e, tt)
     done-may (load area) u e =
         let e₁ = off WrongArea _ _ e .1 in
         let e₂ = off UsedAfterUnused _ _ e₁ .1 in

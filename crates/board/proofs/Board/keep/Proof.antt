@@ -20,33 +20,32 @@ use borrow.Author.Needs.{needs}
 use Rattle.board.proofs.Board.keep.Statement.{statement}
 use Rattle.board.proofs.Board.keep.Tie as tie
 
-module _ {b : Board} {store : List ℕ} where
-  abbrev made : Outcome → Board → Stored
-  made o x = record { outcome = o; edition = cond (isDone o) (nextEdition (editionsIn store)) 0; board = x }
+-- by what it comes to
+abbrev made : List ℕ → Outcome → Board → Stored
+made store o x = record { outcome = o; edition = cond (isDone o) (nextEdition (editionsIn store)) 0; board = x }
 
-  -- by what it comes to
-  stored-by : {after : List ℕ} (o : Outcome) → o ≡ outcomeIn b (keep store)
-      → after ≡ cond (isDone o) (keptStore store (b .pack .settings)) store → Stores b store (made o b) after
-  unfolding shape
-  stored-by o e written =
-      let same = unchanging b (shape (keep store)) (outcomeIn b (keep store)) refl refl in
-      record {
-        answer = λ i. made (e i) (same i);
-        lent = written ∙ ap (λ (p : Outcome). cond (isDone p) (keptStore store (b .pack .settings)) store) e
-            ∙ sym (left-in b (keep store) (keptStore store (b .pack .settings)) store refl);
-      }
+stored-by : (b : Board) (store : List ℕ) {after : List ℕ} (o : Outcome) → o ≡ outcomeIn b (keep store)
+    → after ≡ cond (isDone o) (keptStore store (b .pack .settings)) store → Stores b store (made store o b) after
+unfolding shape
+stored-by b store o e written =
+    let same = unchanging b (shape (keep store)) (outcomeIn b (keep store)) refl refl in
+    record {
+      answer = λ i. made store (e i) (same i);
+      lent = written ∙ ap (λ (p : Outcome). cond (isDone p) (keptStore store (b .pack .settings)) store) e
+          ∙ sym (left-in b (keep store) (keptStore store (b .pack .settings)) store refl);
+    }
 
 stored : {b : Board} {store after : List ℕ} {k : Kept} → usable b ≡ true → Keeps (b .pack .settings) store k after
     → Stores b store (record { outcome = k .outcome; edition = k .edition; board = b }) after
 unfolding shape
 stored {b} {store} {after} {k} some keeps =
-    rw (keeps .gives) (stored-by _ (sym (by-rows b (shape (keep store)) some)) (keeps .store))
+    rw (keeps .gives) (stored-by b store _ (sym (by-rows b (shape (keep store)) some)) (keeps .store))
 
 unstored : {b : Board} {store : List ℕ} {o : Outcome} → usable b ≡ false → o ≡ Refused NoBoard
     → Stores b store (record { outcome = o; edition = 0; board = b }) store
 unfolding shape
 unstored {b} {store} none-usable is =
-    rw is (stored-by (Refused NoBoard) (sym (none-21 b (shape (keep store)) none-usable)) refl)
+    rw is (stored-by b store (Refused NoBoard) (sym (none-21 b (shape (keep store)) none-usable)) refl)
 
 outcome-requires : tie.Need-outcome-requires
 outcome-requires c κs = search needs
@@ -67,7 +66,12 @@ same-length : tie.Need-same-length
 same-length c = search needs
 
 returns-2 : tie.Need-returns-2
-returns-2 c = ?
+returns-2 c =
+    let kept = c .before .before in
+    let else1 = kept .before .before in
+    let tested = else1 .before in
+    let (some, is) = some-board _ (tested .before .outcome .ensures) (tested .is-done .ensures) (else1 .if1 .left) in
+    stored some (kept .keep .ensures)
 
 pub keep-spec : {M : Type 1} → statement M
 keep-spec =
