@@ -23,7 +23,8 @@ use lib.Ieee.Positive.{first-pos}
 use Rattle.laws.specs.Fold.{gather}
 use Rattle.laws.specs.History.{never, since, each, headOr, sum, newest, ago, latest, waits}
 use Rattle.laws.proofs.Lists.{length-latest, timer, waited}
-use Rattle.classes.specs.Store.{pieces, recordsIn, pairsIn, classFor, pairsFor}
+use Rattle.classes.specs.Store.{pairsIn, classFor, pairsFor}
+use Rattle.classes.proofs.Pieces.{class-below}
 use Rattle.cells.specs.Cells.{sumOf, lowestOf, highestOf}
 use Rattle.events.specs.Events.{capacity, noEvent, keptCount, newCount}
 use Rattle.guard.specs.Guard.{noneRemembered}
@@ -168,9 +169,6 @@ byte [] i p = omega arith
 byte (b ∷ s) zero p = p .0
 byte (b ∷ s) (suc i) p = byte s i (p .1)
 
-low : (s : List ℕ) (i : ℕ) → All (λ b. b ≤ 255) s → le16At s i < 65536
-low s i typed = let a = byte s i typed in let b = byte s (i + 1) typed in omega arith
-
 sixteen : (f : Form) (s : List ℕ) (n : ℕ) → All (λ b. b ≤ 255) s → All Sixteen (pairsOf f s n)
 unfolding pairsOf pairAt
 sixteen f s zero typed = tt
@@ -179,10 +177,13 @@ sixteen f s (suc n) typed = (go f, sixteen f s n typed)
     high : (i : ℕ) → be16At s i < 65536
     high i = let a = byte s i typed in let b = byte s (i + 1) typed in omega arith
 
+    low-first : (i : ℕ) → le16At s i < 65536
+    low-first i = let a = byte s i typed in let b = byte s (i + 1) typed in omega arith
+
     go : (f : Form) → Sixteen (pairAt f s n)
     go form.Modbus = high (7 + 2 * n)
-    go form.Block = low s (5 + 2 * n) typed
-    go form.List = low s (5 + 4 * n) typed
+    go form.Block = low-first (5 + 2 * n)
+    go form.List = low-first (5 + 4 * n)
 
 abbrev pub Bytes : List ℕ → Type 0
 Bytes s = All (λ b. b ≤ 255) s
@@ -192,30 +193,18 @@ all-taken zero bytes p = tt
 all-taken (suc n) [] p = tt
 all-taken (suc n) (b ∷ bytes) p = (p .0, all-taken n bytes (p .1))
 
-all-dropped : (n : ℕ) (bytes : List ℕ) → Bytes bytes → Bytes (drop n bytes)
-all-dropped zero bytes p = p
-all-dropped (suc n) [] p = tt
-all-dropped (suc n) (b ∷ bytes) p = all-dropped n bytes (p .1)
-
--- the records of a store, and the twelve registers of one
-all-pieces : (n : ℕ) (store : List ℕ) → Bytes store → All Bytes (pieces n store)
-all-pieces zero store p = tt
-all-pieces (suc n) store p = (all-taken 32 store p, all-pieces n (drop 32 store) (all-dropped 32 store p))
-
-one-piece : (rs : List (List ℕ)) (i : ℕ) → All Bytes rs → Bytes (getD rs i [])
-one-piece [] i p = tt
-one-piece (r ∷ rs) zero p = p .0
-one-piece (r ∷ rs) (suc i) p = one-piece rs i (p .1)
-
-twelve-sixteen : (r : List ℕ) (n : ℕ) → Bytes r → All Sixteen (pairsIn r n)
+-- the twelve registers of a record of a store
+twelve-sixteen : (r : List ℕ) (n : ℕ) → ((i : ℕ) → getD r i 0 ≤ 255) → All Sixteen (pairsIn r n)
 unfolding pairsIn
-twelve-sixteen r zero typed = tt
-twelve-sixteen r (suc n) typed = (low r (4 + 2 * n) typed, twelve-sixteen r n typed)
+twelve-sixteen r zero bytes = tt
+twelve-sixteen r (suc n) bytes =
+    let a = bytes (4 + 2 * n) in
+    let b = bytes (4 + 2 * n + 1) in
+    (omega arith, twelve-sixteen r n bytes)
 
 recalled-sixteen : (store : List ℕ) (edition : ℕ) → Bytes store → All Sixteen (pairsFor store edition)
-unfolding recordsIn
 recalled-sixteen store edition typed =
-    twelve-sixteen (classFor store edition) 12 (one-piece (recordsIn store) _ (all-pieces 16 store typed))
+    twelve-sixteen (classFor store edition) 12 (λ j. class-below 255 store edition j (λ i. byte store i typed))
 
 all-begun : (bytes : List ℕ) → Bytes bytes → Bytes (begun bytes)
 all-begun [] p = tt
