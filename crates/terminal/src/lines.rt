@@ -60,17 +60,22 @@ pub(crate) fn put_tidied(out: &mut [u8], at: usize, number: u8, store: &[u8]) ->
     put_end(out, next)
 }
 
-// BYTE.. +Z, with no space before the first.
+// BYTE.. +Z
 pub(crate) fn put_store(out: &mut [u8], at: usize, store: &[u8]) -> usize {
     let said = without_zeros(store);
-    let mut next = at;
-    if 0 < said {
-        next = put_byte(out, next, store[0]);
-        next = put_bytes(out, next, &store[1..said]);
-        next = put(out, next, SPACE);
+    let bytes = put_row(out, at, &store[0..said]);
+    let zeros = put_zeros(out, bytes, store.len() - said);
+    put_end(out, zeros)
+}
+
+// BYTE.. with a space behind each.
+fn put_row(out: &mut [u8], at: usize, bytes: &[u8]) -> usize {
+    if bytes.len() == 0 {
+        return at;
     }
-    next = put_zeros(out, next, store.len() - said);
-    put_end(out, next)
+    let first = put_byte(out, at, bytes[0]);
+    let rest = put_bytes(out, first, &bytes[1..]);
+    put(out, rest, SPACE)
 }
 
 // Every register of the slice, with a space before each.

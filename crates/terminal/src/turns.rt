@@ -159,14 +159,18 @@ fn billed_into(board: Board, number: u32, bytes: &mut [u8], out: &mut [u8], said
     after(answer.board, put_saved(out, said, state, bytes))
 }
 
-// The console's store becomes these bytes, and zeros up to its end.
 fn stocked(bytes: &[u8], store: &mut [u8], out: &mut [u8], said: usize) -> usize {
+    stock(bytes, store);
+    put_store(out, said, store)
+}
+
+// The console's store becomes these bytes, and zeros up to its end.
+fn stock(bytes: &[u8], store: &mut [u8]) {
     let mut i = 0;
     while i < store.len() {
         store[i] = numbers::byte_at(bytes, i);
         i += 1;
     }
-    put_store(out, said, store)
 }
 
 fn stored(stored: Stored, store: &[u8], out: &mut [u8], said: usize) -> Turn {
