@@ -61,8 +61,6 @@ static void ask_registers(struct script *script, struct request *request)
     add(request, block.RL);
 }
 
-static const unsigned listed[] = {301, 303, 308, 315, 316, 317, 318, 319, 320, 332, 334, 335};
-
 /* A value at the ends of the register's range, inside it, or (seldom) outside it. */
 static int make_value(struct script *script, unsigned number)
 {
@@ -106,7 +104,7 @@ static struct settings make_settings(struct script *script)
         wanted.of[20] = (uint16_t)between(script, -40, 10);
     } else {
         for (int changes = between(script, 1, 3); changes > 0; changes--) {
-            const unsigned number = PICK(script, listed);
+            const unsigned number = PICK(script, listed_settings);
             wanted.of[number - 300] = (uint16_t)make_value(script, number);
         }
     }
@@ -214,7 +212,7 @@ static void pass_through(struct script *script, struct request *request, struct 
     const bool few = pairs <= 4;
     for (int pair = 0; pair < pairs; pair++) {
         const bool any = few && one_in(script, 3);
-        const int number = any ? between(script, 300, 399) : (int)PICK(script, listed);
+        const int number = any ? between(script, 300, 399) : (int)PICK(script, listed_settings);
         const bool far = one_in(script, 3);
         add_pair(request, after, number, far ? between(script, 0, 65535) : make_value(script, (unsigned)number));
     }

@@ -6,8 +6,8 @@
 #include <stddef.h>
 #include <stdint.h>
 
-/* "Numbers the caller gets", 6 and 7 of W-201, 31 to 33 of W-205, 41 to 45 of W-208 in the place of 4, 61 and 62 of
-   W-211, 71 of W-213, 81 to 83 of W-214. */
+/* "Numbers the caller gets", 6 and 7 of W-201, 31 to 33 of W-205, 41 to 45 of W-208 in the place of 4, 51 to 55 of
+   W-210, 61 and 62 of W-211, 71 of W-213, 81 to 83 of W-214. */
 enum number {
     DONE = 0,
     ROOM_TOO_SMALL = 1,
@@ -28,6 +28,11 @@ enum number {
     WRONG_FIELD = 43,
     OUT_OF_RANGE = 44,
     OUT_OF_ORDER = 45,
+    WRONG_STORE = 51,
+    DAMAGED_STORE = 52,
+    NO_SUCH_EDITION = 53,
+    WRONG_CLASS = 54,
+    EDITIONS_USED_UP = 55,
     BAD_RECORD = 61,
     CUT_RECORD = 62,
     WRONG_CABINET_SLICE = 71,
@@ -48,6 +53,9 @@ enum {
     OLD_AREA_BYTES = 192,   /* of an area that was saved before W-207 */
     CABINET_REGISTERS = 20, /* W-213 */
     HIRE_BYTES = 32,        /* of the record that the desk gets, W-214 */
+    CLASS_BYTES = 32,       /* of a record of a store of classes, W-210 */
+    STORE_BYTES = 16 * CLASS_BYTES,
+    LISTED_SETTINGS = 12,
     WINDOW = 10             /* ticks that the speed looks back on */
 };
 
@@ -63,6 +71,7 @@ struct settings {
 };
 
 extern const struct settings least_settings, greatest_settings, factory_settings;
+extern const unsigned listed_settings[LISTED_SETTINGS];     /* their registers, rising */
 
 /* "Readings", without the cells: these are lent as a slice. */
 struct readings {
@@ -134,12 +143,20 @@ enum number board_fetch(struct board *board, uint8_t *reply, size_t room, uint16
 enum number board_save(const struct board *board, uint8_t *area, size_t length);
 enum number board_load(struct board *board, const uint8_t *area, size_t length);
 enum number board_cabinet(const struct board *board, uint16_t *registers, size_t count);
+/* `edition` takes the new one, and 0 where it is refused. */
+enum number board_keep(const struct board *board, uint8_t *store, size_t length, uint32_t *edition);
+enum number board_recall(struct board *board, const uint8_t *store, size_t length, uint32_t edition);
+enum number store_tidy(uint8_t *store, size_t length);
 
 bool holds_frame(const struct board *board);
 bool is_ever_recorded(uint8_t event_number);
 uint64_t oldest_kept(const struct board *board);    /* as events are noted, from 0; events_noted where none is kept */
 void clear_events(struct board *board);
 void clear_statistics(struct board *board);
+void put_class(uint8_t record[CLASS_BYTES], uint32_t edition, const struct settings *settings);
+
+/* A write, with the settings as they would be after it; `which` takes the register of an OUT_OF_RANGE, and 0 otherwise. */
+enum number take_settings(struct board *board, const struct settings *after, uint16_t *which);
 
 /* "A register block must lie in one range: 0 to 55, 100 to 117, or 300 to 399." */
 bool in_one_range(unsigned first, unsigned registers);

@@ -64,11 +64,11 @@ static inline int hex_digit(char digit)
 }
 
 /* Reading: a byte is exactly two hex digits, of either case each. Takes all bytes to the end of the line. */
-static bool take_bytes(struct words *words, uint8_t bytes[MOST_BYTES], size_t *length)
+static bool take_bytes(struct words *words, uint8_t *bytes, size_t most, size_t *length)
 {
     *length = 0;
     while (another_word(words)) {
-        if (*length == MOST_BYTES || words->end - words->at < 2 || !at_word_end(words->at + 2, words->end))
+        if (*length == most || words->end - words->at < 2 || !at_word_end(words->at + 2, words->end))
             return false;
         const int high = hex_digit(words->at[0]), low = hex_digit(words->at[1]);
         if (high < 0 || low < 0)
@@ -145,16 +145,25 @@ static char *say_words(char *at, const uint16_t *words, size_t count)
     return at;
 }
 
-/* " BYTE.. +Z": the whole buffer, its trailing zero bytes as their count. */
-static char *say_buffer(char *at, const uint8_t *buffer, size_t room)
+/* "BYTE.. +Z": the whole buffer, its trailing zero bytes as their count. */
+static char *say_whole(char *at, const uint8_t *buffer, size_t room)
 {
     size_t said = room;
     while (said > 0 && buffer[said - 1] == 0)
         said--;
-    at = say_bytes(at, buffer, said);
-    *at++ = ' ';
+    for (size_t byte = 0; byte < said; byte++) {
+        at = say_byte(at, buffer[byte]);
+        *at++ = ' ';
+    }
     *at++ = '+';
     return say_decimal(at, (unsigned)(room - said));
+}
+
+/* " BYTE.. +Z" */
+static char *say_buffer(char *at, const uint8_t *buffer, size_t room)
+{
+    *at++ = ' ';
+    return say_whole(at, buffer, room);
 }
 
 /* ---- Calls: each gives back the end of its answer, or NULL for "?" with nothing changed ---- */
@@ -198,7 +207,7 @@ static char *call_frame(struct board *board, struct words *words, char *answer)
     int64_t room;
     uint8_t frame[MOST_BYTES], reply[MOST_ROOM];
     size_t length;
-    if (!take_number(words, 0, MOST_ROOM, &room) || !take_bytes(words, frame, &length))
+    if (!take_number(words, 0, MOST_ROOM, &room) || !take_bytes(words, frame, MOST_BYTES, &length))
         return NULL;
     memset(reply, 0x5A, (size_t)room);
     uint16_t which;
@@ -211,7 +220,7 @@ static char *call_offer(struct board *board, struct words *words, char *answer)
 {
     uint8_t bytes[MOST_BYTES];
     size_t length, taken;
-    if (!take_bytes(words, bytes, &length))
+    if (!take_bytes(words, bytes, MOST_BYTES, &length))
         return NULL;
     const enum number number = board_offer(board, bytes, length, &taken);
     answer = say_state(answer, number, board);
@@ -247,7 +256,7 @@ static char *call_load(struct board *board, struct words *words, char *answer)
 {
     uint8_t area[MOST_BYTES];
     size_t length;
-    if (!take_bytes(words, area, &length))
+    if (!take_bytes(words, area, MOST_BYTES, &length))
         return NULL;
     const enum number number = board_load(board, area, length);
     return say_state(answer, number, board);
@@ -281,11 +290,54 @@ static char *call_handover(struct board *board, struct words *words, char *answe
     return alone ? answer : say_bytes(answer, record, (size_t)length);
 }
 
+/* "the console's one store of classes becomes these bytes, followed by zeros up to LENGTH, 0 to 600; more bytes than
+   LENGTH are wrong" */
+static char *call_store(struct store *store, struct words *words, char *answer)
+{
+    int64_t length;
+    struct store next = {.length = 0};
+    size_t bytes;
+    if (!take_number(words, 0, MOST_ROOM, &length) || !take_bytes(words, next.bytes, (size_t)length, &bytes))
+        return NULL;
+    next.length = (size_t)length;
+    *store = next;
+    return say_whole(answer, store->bytes, store->length);
+}
+
+/* "the new edition (0 where refused), then the store as frame shows its buffer" */
+static char *call_keep(const struct board *board, struct store *store, struct words *words, char *answer)
+{
+    uint32_t edition;
+    if (another_word(words))
+        return NULL;
+    const enum number number = board_keep(board, store->bytes, store->length, &edition);
+    answer = say_state(answer, number, board);
+    *answer++ = ' ';
+    return say_buffer(say_decimal(answer, edition), store->bytes, store->length);
+}
+
+static char *call_recall(struct board *board, const struct store *store, struct words *words, char *answer)
+{
+    int64_t edition;
+    if (!take_number(words, 0, UINT32_MAX, &edition) || another_word(words))
+        return NULL;
+    const enum number number = board_recall(board, store->bytes, store->length, (uint32_t)edition);
+    return say_state(answer, number, board);
+}
+
+static char *call_tidy(struct store *store, struct words *words, char *answer)
+{
+    if (another_word(words))
+        return NULL;
+    const enum number number = store_tidy(store->bytes, store->length);
+    return say_buffer(say_decimal(answer, number), store->bytes, store->length);
+}
+
 static char *call_crc(struct words *words, char *answer)
 {
     uint8_t bytes[MOST_BYTES];
     size_t length;
-    if (!take_bytes(words, bytes, &length))
+    if (!take_bytes(words, bytes, MOST_BYTES, &length))
         return NULL;
     const uint16_t crc = crc_of(bytes, length);
     answer = say_byte(answer, crc & 0xFF);
@@ -305,7 +357,7 @@ static char *call_register(const struct board *board, struct words *words, char 
     return answer;
 }
 
-static char *make_call(struct board *board, struct words *words, char *answer)
+static char *make_call(struct board *board, struct store *store, struct words *words, char *answer)
 {
     if (take_word(words, "tick"))
         return call_tick(board, words, answer);
@@ -325,6 +377,14 @@ static char *make_call(struct board *board, struct words *words, char *answer)
         return call_cabinet(board, words, answer);
     if (take_word(words, "handover"))
         return call_handover(board, words, answer);
+    if (take_word(words, "store"))
+        return call_store(store, words, answer);
+    if (take_word(words, "keep"))
+        return call_keep(board, store, words, answer);
+    if (take_word(words, "recall"))
+        return call_recall(board, store, words, answer);
+    if (take_word(words, "tidy"))
+        return call_tidy(store, words, answer);
     if (take_word(words, "crc"))
         return call_crc(words, answer);
     if (take_word(words, "register"))
@@ -332,15 +392,21 @@ static char *make_call(struct board *board, struct words *words, char *answer)
     return NULL;
 }
 
+void set_up(struct board *board, struct store *store)
+{
+    board_start(board, 0, 0);
+    *store = (struct store){.length = STORE_BYTES};
+}
+
 /* Reading: only "#" as the very first byte makes a comment, " #" is a word that is no call.
    Reading: a comment or a line of spaces alone gives no answer however long it is; any other line over 4,000 bytes
    (its LF or CR LF not counted) is "?". */
-size_t answer_line(struct board *board, const char *line, size_t length, char answer[ANSWER_ROOM])
+size_t answer_line(struct board *board, struct store *store, const char *line, size_t length, char answer[ANSWER_ROOM])
 {
     struct words words = {line, line + length};
     if (!another_word(&words) || line[0] == '#')
         return 0;
-    char *end = length > LONGEST_LINE ? NULL : make_call(board, &words, answer);
+    char *end = length > LONGEST_LINE ? NULL : make_call(board, store, &words, answer);
     if (end == NULL) {
         end = answer;
         *end++ = '?';

@@ -188,31 +188,6 @@ static enum number read_list(const struct board *board, const uint8_t *frame, st
     return DONE;
 }
 
-static bool in_its_range(const struct settings *settings, unsigned number)
-{
-    const int value = read_setting(settings, number);
-    return value >= read_setting(&least_settings, number) && value <= read_setting(&greatest_settings, number);
-}
-
-/* "A write is taken whole or not at all, and only if afterwards 316 <= 301 < 315"
-   W-202: "only the final values are judged". A register that is not written is in its range already.
-   W-208: "44 a setting outside its range, with its register number, the lowest such register, and 45 the ordering rule" */
-static enum number take_settings(struct board *board, const struct settings *after, struct reply *reply)
-{
-    for (unsigned number = 300; number <= 399; number++) {
-        if (!in_its_range(after, number)) {
-            reply->which = (uint16_t)number;
-            return OUT_OF_RANGE;
-        }
-        if (board_fault == 3)
-            board->settings.of[number - 300] = after->of[number - 300];
-    }
-    if (read_setting(after, 316) > read_setting(after, 301) || read_setting(after, 301) >= read_setting(after, 315))
-        return OUT_OF_ORDER;
-    board->settings = *after;
-    return DONE;
-}
-
 /* "addresses all in 300 to 399" */
 static bool may_be_written(unsigned address, unsigned registers)
 {
@@ -229,7 +204,7 @@ static enum number write_block_high_first(struct board *board, const uint8_t *fr
     struct settings after = board->settings;
     for (unsigned at = 0; at < RL; at++)
         after.of[address - 300 + at] = (uint16_t)high_first(frame + 7 + 2 * at);
-    const enum number number = take_settings(board, &after, reply);
+    const enum number number = take_settings(board, &after, &reply->which);
     if (number != DONE)
         return number;
     put_head(reply, 0x10);
@@ -251,7 +226,7 @@ static enum number write_block(struct board *board, const uint8_t *frame, struct
     struct settings after = board->settings;
     for (unsigned at = 0; at < registers; at++)
         after.of[address - 300 + at] = (uint16_t)low_first(frame + 5 + 2 * at);
-    const enum number number = take_settings(board, &after, reply);
+    const enum number number = take_settings(board, &after, &reply->which);
     if (number != DONE)
         return number;
     put_ack(reply, 0x0B);
@@ -272,7 +247,7 @@ static enum number write_list(struct board *board, const uint8_t *frame, struct 
             return WRONG_FIELD;
         after.of[address - 300] = (uint16_t)low_first(frame + 5 + 4 * at);
     }
-    const enum number number = take_settings(board, &after, reply);
+    const enum number number = take_settings(board, &after, &reply->which);
     if (number != DONE)
         return number;
     put_ack(reply, 0x0D);

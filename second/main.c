@@ -3,7 +3,7 @@
    second --script SEED CALLS      prints a script of calls that press the limits
    second --script SEED CALLS K    the same of one kind, K ticks or frames; or of all kinds, K quick with a quarter of
                                    the frames of W-202, K memory with a twentieth of the calls of W-205, K cabinet with
-                                   a twentieth of W-213, K desk with a twentieth of W-214
+                                   a twentieth of W-213, K desk with a twentieth of W-214, K classes with a tenth of W-210
    second --limits NAME            prints a script that drives a count to its end; limits.c has the names
    second --compare NAME SCRIPT    holds the board's answers, on standard input, to its own answers to the file SCRIPT
    second --replay                 plays a recording from standard input, and prints its events
@@ -100,9 +100,10 @@ static void answer_all(void)
     const char *line;
     struct input input = read_from(stdin);
     struct board board;
-    board_start(&board, 0, 0);    /* "Before the first start a call is made on a board that was started with 0 cells" */
+    struct store store;
+    set_up(&board, &store);
     while (next_line(&input, &line, &line_length)) {
-        length += answer_line(&board, line, without_end(line, line_length), answers + length);
+        length += answer_line(&board, &store, line, without_end(line, line_length), answers + length);
         if (length > sizeof answers - ANSWER_ROOM) {
             fwrite(answers, 1, length, stdout);
             length = 0;
@@ -123,13 +124,14 @@ static void show(const char *who, const char *line, size_t length)
 static bool compare(const char *name, struct input *script, struct input *answers)
 {
     struct board board;
+    struct store store;
     uint64_t calls = 0;
     const char *line, *answer;
     char own[ANSWER_ROOM];
     size_t line_length, answer_length, own_length;
-    board_start(&board, 0, 0);
+    set_up(&board, &store);
     while (next_line(script, &line, &line_length)) {
-        own_length = answer_line(&board, line, without_end(line, line_length), own);
+        own_length = answer_line(&board, &store, line, without_end(line, line_length), own);
         if (own_length == 0)
             continue;
         calls++;
@@ -192,7 +194,7 @@ static int print_script_of(int words, char **word)
         const char *name;
         enum script_kind kind;
     } kinds[] = {{"ticks", TICKS}, {"frames", FRAMES}, {"quick", QUICK}, {"memory", MEMORY}, {"cabinet", CABINET},
-                 {"desk", DESK}};
+                 {"desk", DESK}, {"classes", CLASSES}};
     const uint64_t seed = number_of("SEED", word[2], 0, UINT64_MAX), calls = number_of("CALLS", word[3], 1, UINT64_MAX);
     if (words == 4) {
         print_script(seed, calls, MIXED);
@@ -261,7 +263,7 @@ int main(int words, char **word)
     const int status = obey_words(words, word);
     if (status == WRONG_WORDS)
         fputs("usage: second | second --fault 1..6\n"
-              "       second --script SEED CALLS [ticks|frames|quick|memory|cabinet|desk]\n"
+              "       second --script SEED CALLS [ticks|frames|quick|memory|cabinet|desk|classes]\n"
               "       second --limits latchings|currents|distance|charge|event-time|event-numbers\n"
               "       second --compare NAME SCRIPT | second --replay | second --calls | second --engine\n"
               "       second --line [RECORDING] | second --bill | second --bills SEED N [cut|past]\n"

@@ -259,14 +259,14 @@ static void say_tick(struct script *script)
 
 static void say_bytes(struct script *script, const char *byte_format, const uint8_t *bytes, size_t length)
 {
-    for (size_t at = 0; at < length && at < MOST_BYTES; at++)
+    for (size_t at = 0; at < length; at++)
         say(script, byte_format, bytes[at]);
 }
 
 static void say_request(struct script *script, int room, const char *byte_format, const struct request *request)
 {
     say(script, "frame %d", room);
-    say_bytes(script, byte_format, request->bytes, request->length);
+    say_bytes(script, byte_format, request->bytes, request->length < MOST_BYTES ? request->length : MOST_BYTES);
 }
 
 /* Room for a reply, but for one time in so many. */
@@ -416,6 +416,36 @@ static void say_handover(struct script *script)
         say(script, "handover %" PRIu32 " %d", pack, length);
 }
 
+/* ---- Classes ---- */
+
+/* The zeros at its end are said, or some of them, or none. */
+static void say_store(struct script *script)
+{
+    const struct store store = make_store(script);
+    size_t bytes = store.length;
+    while (bytes > 0 && store.bytes[bytes - 1] == 0)
+        bytes--;
+    if (one_in(script, 3))
+        bytes = (size_t)between(script, (int)bytes, (int)store.length);
+    else if (one_in(script, 3))
+        bytes = store.length;
+    say(script, "store %d", (int)store.length);
+    say_bytes(script, one_in(script, 20) ? " %02x" : " %02X", store.bytes, bytes);
+}
+
+static void say_class(struct script *script)
+{
+    const int kind = between(script, 0, 9);
+    if (kind < 2)
+        say_store(script);
+    else if (kind < 5)
+        say(script, "keep");
+    else if (kind < 9)
+        say(script, "recall %" PRIu32, pick_edition(script));
+    else
+        say(script, "tidy");
+}
+
 /* ---- Other lines ---- */
 
 static void say_crc(struct script *script)
@@ -446,6 +476,11 @@ static const char *const junk[] = {
     "load", "load F", "load FFF", "load FFFF", "load GG", "load 248 FF", "loads FF", "Load FF", "load fF Ff",
     "cabinet", "cabinet 41", "cabinet -0", "cabinet -1", "cabinet 20 20", "cabinet 020", "cabinet x", "cabinet 0x14",
     "cabinets 20", "Cabinet 20", "cabinet20", "cabinet 20 ",
+    "store", "store 601", "store -0", "store x", "store 0 00", "store 1 01 02", "store 512 G0", "store 512 1",
+    "store 512 111", "store 0512", "store 600 0a 0B", "Store 512", "stores 512", "store512", "store 4 fF 00 Ff",
+    "keep 1", "keep 512", "Keep", "keeps", "kee", "  keep ", "recall", "recall 4294967296", "recall 42949672950",
+    "recall -0", "recall -1", "recall 1 1", "recall x", "recall 0x1", "recall 001", "Recall 1", "recalls 1", "recall1",
+    "recall 4294967295", "tidy 1", "tidy 512", "Tidy", "tidys", " tidy  ", "tid",
     "crc", "crc 1", "crc 001", "crc ZZ", "crc aB Ba", "register", "register 65536", "register -0", "register 50 50",
     "register 0050", "tick 0 250 250 250 0 0",
     "tick 2147483648 250 250 250 0 0 0 1 2 3 4", "tick -2147483649 250 250 250 0 0 0 1 2 3 4",
@@ -487,7 +522,7 @@ static void say_junk(struct script *script)
 /* "Number 21 gives back no usable board: any later call on it, handover included, answers 21" */
 static void say_call_without_board(struct script *script)
 {
-    const int kind = between(script, 0, 8);
+    const int kind = between(script, 0, 9);
     script->unstarted--;
     if (kind == 0)
         say_handover(script);
@@ -505,6 +540,8 @@ static void say_call_without_board(struct script *script)
         say_save_or_load(script);
     else if (kind == 8)
         say_cabinet(script);
+    else if (kind == 9)
+        say_class(script);
     else
         say_frame(script);
 }
@@ -529,6 +566,8 @@ static void say_call(struct script *script)
         say_save_or_load(script);
     } else if (so_many_of(script, script->mix.cabinets, 1000)) {
         say_cabinet(script);
+    } else if (so_many_of(script, script->mix.classes, 1000)) {
+        say_class(script);
     } else if (kind < 12) {
         say_start(script);
     } else if (kind < 12 + script->mix.handovers) {
@@ -562,7 +601,7 @@ static void say_call_of_one_kind(struct script *script, enum script_kind kind, u
 static struct mix mix_of(enum script_kind kind)
 {
     struct mix mix = {.quick_commands = 12, .saves_and_loads = 15, .cabinets = 10, .cabinet_ticks = 3, .handovers = 58,
-                      .charge_ticks = 1};
+                      .charge_ticks = 1, .classes = 20};
     switch (kind) {
     case TICKS: mix.cabinet_ticks = 0; mix.charge_ticks = 0; break;
     case FRAMES: mix.cabinet_ticks = 0; mix.charge_ticks = 0; break;
@@ -570,6 +609,7 @@ static struct mix mix_of(enum script_kind kind)
     case MEMORY: mix.saves_and_loads = 52; break;
     case CABINET: mix.cabinets = 52; mix.cabinet_ticks = 50; break;
     case DESK: mix.handovers = 520; mix.charge_ticks = 40; break;
+    case CLASSES: mix.classes = 105; break;
     default: break;
     }
     return mix;
@@ -581,14 +621,14 @@ void print_script(uint64_t seed, uint64_t calls, enum script_kind kind)
     char ignored[ANSWER_ROOM];
     script = (struct script){.chance = seed, .mix = mix_of(kind), .unstarted = 4, .reads_of_events = 12};
     memset(script.saved, 0xFF, sizeof script.saved);
-    board_start(&script.board, 0, 0);
+    set_up(&script.board, &script.store);
     for (uint64_t call = 0; call < calls; call++) {
         script.length = 0;
         if (kind == TICKS || kind == FRAMES)
             say_call_of_one_kind(&script, kind, call);
         else
             say_call(&script);
-        answer_line(&script.board, script.line, script.length, ignored);
+        answer_line(&script.board, &script.store, script.line, script.length, ignored);
         fwrite(script.line, 1, script.length, stdout);
         fputs(one_in(&script, 50) ? "\r\n" : "\n", stdout);
     }

@@ -16,12 +16,14 @@ struct mix {
     int cabinet_ticks;          /* so many ticks of 100 press what a cabinet reads */
     int handovers;              /* so many calls of 10,000 */
     int charge_ticks;           /* so many ticks of 100 have a large current */
+    int classes;                /* so many calls of 1,000 are of W-210 */
 };
 
 struct script {
     uint64_t chance;
     struct mix mix;
     struct board board;
+    struct store store;
     bool charger, ignition;
     int unstarted;              /* calls left before the first start may come */
     int quiet;                  /* ticks left of a quiet run */
@@ -62,6 +64,10 @@ void ask_as_app(struct script *script, struct request *request);
 
 /* An area as a save may have given it, or damaged; gives back its length. */
 size_t make_area(struct script *script, uint8_t area[MOST_BYTES]);
+
+/* A store of classes, whole or damaged; and an edition that it may have. */
+struct store make_store(struct script *script);
+uint32_t pick_edition(struct script *script);
 
 /* Faults of the frame itself: CRC, first byte, length. */
 void spoil(struct script *script, struct request *request);

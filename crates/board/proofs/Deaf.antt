@@ -1,6 +1,6 @@
--- A tick, a frame, a handover, a save, a load and a cabinet's call neither look at what is held of the raw line nor touch it (a handover drops it): so calls
--- that are none of the line's are answered alike, whatever is held; and an offer changes nothing else, so once what was heard is let go no
--- offer shows. Assumes nothing.
+-- Every call but an offer and a fetch neither looks at what is held of the raw line nor touches it (a handover drops it): so calls that are
+-- none of the line's are answered alike, whatever is held; and an offer changes nothing else, so once what was heard is let go no offer
+-- shows. Assumes nothing.
 use mathlib.Core.Path.{_≡_, refl, sym, ap, _∙_}
 use mathlib.Core.Bool.{Bool, true, false, not, cond, false≢true}
 use mathlib.Core.List.{List, [], _∷_}
@@ -26,7 +26,7 @@ use Rattle.board.specs.State.{usable, withReceiver}
 use Rattle.board.specs.Handover.{handedOver}
 use Rattle.board.specs.Line.{letGo}
 use Rattle.board.specs.Changes.{changedBy}
-use Rattle.board.specs.Calls.{Call, tick, frame, handover, offer, fetch, save, load, cabinet}
+use Rattle.board.specs.Calls.{Call, tick, frame, handover, offer, fetch, save, load, cabinet, keep, recall}
 use Rattle.board.specs.Calls.{Seen, seen, replyLent, Shape, shape, outcomeOf}
 use Rattle.board.specs.Calls.{letsGo, boardBy, seenOf, outcomeIn, boardAfter, step}
 use Rattle.board.specs.Behaviour.{board, afterIn, answersIn}
@@ -95,6 +95,8 @@ module _ (b : Board) (r : Receiver) where
   same (save n) e = record { fetches = refl; rows = refl; lent = refl; carries = refl; held = r; none = λ e. e; done = refl }
   same (load area) e = record { fetches = refl; rows = refl; lent = refl; carries = refl; held = r; none = λ e. e; done = refl }
   same (cabinet n) e = record { fetches = refl; rows = refl; lent = refl; carries = refl; held = r; none = λ e. e; done = refl }
+  same (keep store) e = record { fetches = refl; rows = refl; lent = refl; carries = refl; held = r; none = λ e. e; done = refl }
+  same (recall store edition) e = record { fetches = refl; rows = refl; lent = refl; carries = refl; held = r; none = λ e. e; done = refl }
 
   module _ (c : Call) (so : Same (shape c)) where
     outcome : outcomeIn (withReceiver b r) c ≡ outcomeIn b c
@@ -187,3 +189,5 @@ all-let-go b (c ∷ cs) e = go c (shape c .fetches) refl (shape c .onLine) refl 
     go (save n) false f true o e later = absurd (false≢true o)
     go (load area) false f true o e later = absurd (false≢true o)
     go (cabinet n) false f true o e later = absurd (false≢true o)
+    go (keep store) false f true o e later = absurd (false≢true o)
+    go (recall store edition) false f true o e later = absurd (false≢true o)

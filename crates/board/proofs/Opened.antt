@@ -4,6 +4,8 @@
 use Rattle.laws.specs.Fold.{shifted, packed}
 use Rattle.crc.specs.Crc as crc
 use Rattle.cabinet.specs.Cabinet as cabinet
+use Rattle.classes.specs.Store as classes
+use Rattle.editions.specs.Editions as editions
 use Rattle.desk.specs.Desk as desk
 use Rattle.events.specs.Events as events
 use Rattle.events.specs.Area as area
@@ -53,6 +55,8 @@ unfolding steps first shifted packed crc.crcOf crc.byteIn crc.times crc.shiftedO
     settings.inRange
     settings.ordered settings.judgedOf settings.putOf settings.standingOf signed.bitsOf signed.fromBits signed.degreesOf
     statistics.distanceOf statistics.summedOf statistics.billOf desk.recordBytes cabinet.registerAt cabinet.filledOf
+    classes.storeRows classes.recordsIn classes.storeOf classes.recordOf classes.keptOf classes.pairsIn editions.editionOf editions.spoilt
+    editions.repeated editions.placeFor
     statistics.countsOf statistics.temperaturesShown statistics.riddenOf statistics.countedOf statistics.clearedAt statistics.registerOf
     newHire newPack
     startOutcome startBoard laterOf statusFor readingRegister shownAt valueAt handedOver words sealed padded expectedOf addressAt allShown

@@ -11,8 +11,9 @@ use Rattle.events.specs.declared.Event.{Event}
 use Rattle.board.specs.declared.Board.{Board}
 use Rattle.board.specs.declared.Answer.{Answer}
 use Rattle.board.specs.declared.Heard.{Heard}
+use Rattle.board.specs.declared.Stored.{Stored}
 use Rattle.answers.specs.declared.Shown.{Shown}
-use Rattle.board.specs.Promises.{Starts, Answers, Leaves, Offers, ShowsRegister, ShowsCharge, ShowsDischarge, ShowsDecision}
+use Rattle.board.specs.Promises.{Starts, Answers, Leaves, Offers, Stores, ShowsRegister, ShowsCharge, ShowsDischarge, ShowsDecision}
 use Rattle.board.specs.Promises.{ShowsBalancing, ShowsLifetime, CountsKept, ShowsKept, CountsNew, ShowsNew}
 use Rattle.board.specs.Calls.{Call, offer, Lent, nothingLent, replyLent, areaLent, Seen, seen, shape, seenOf, leftOf, outcomeIn}
 use Rattle.board.specs.Calls.{boardAfter, step}
@@ -37,6 +38,8 @@ pub record Promises : Type 0 where
   pub left : (b : Board) (c : Call) (before : List ℕ) (r r′ : Answer) (after after′ : List ℕ)
       → Leaves b c before r after → Leaves b c before r′ after′ → (r ≡ r′) × (after ≡ after′)
   pub offered : (b : Board) (bytes : List ℕ) → Determines Heard (Offers b bytes)
+  pub stored : (b : Board) (store : List ℕ) (r r′ : Stored) (after after′ : List ℕ)
+      → Stores b store r after → Stores b store r′ after′ → (r ≡ r′) × (after ≡ after′)
   pub register : (b : Board) (at : ℕ) → Determines Shown (ShowsRegister b at)
   pub charge : (b : Board) → Determines Bool (ShowsCharge b)
   pub discharge : (b : Board) → Determines Bool (ShowsDischarge b)
@@ -55,6 +58,7 @@ tight =
       answered = λ b c. equal _;
       left = both;
       offered = λ b bytes. equal _;
+      stored = λ b store r r′ after after′ f g. (equal _ r r′ (f .answer) (g .answer), equal _ after after′ (f .lent) (g .lent));
       register = λ b at. equal _;
       charge = λ b. equal _;
       discharge = λ b. equal _;

@@ -7,7 +7,7 @@ use lib.ListN.{replicate}
 use Rattle.refusals.specs.Refusals.{numberOf}
 use Rattle.readings.specs.Readings.{noReadings}
 use Rattle.board.specs.Start.{startBoard}
-use Rattle.board.specs.Calls.{Call, tick, frame, handover, offer, fetch, save, load, cabinet, outcomeIn, boardAfter}
+use Rattle.board.specs.Calls.{Call, tick, frame, handover, offer, fetch, save, load, cabinet, keep, recall, outcomeIn, boardAfter}
 use Rattle.board.proofs.Opened.{opened}
 
 -- the numbers that calls get, each on the board that the calls before it leave
@@ -23,7 +23,8 @@ idle : List ℕ
 idle = 0xAA ∷ 0x18 ∷ 0x7F ∷ 0x1A ∷ []
 
 -- 21: every call of a board that is none, whatever else applies
-none : numbers 3 (tick [] noReadings ∷ frame [] 0 ∷ handover 0 31 ∷ offer idle ∷ fetch 0 ∷ save 0 ∷ load [] ∷ cabinet 19 ∷ []) ≡ replicate 8 21
+none : numbers 3 (tick [] noReadings ∷ frame [] 0 ∷ handover 0 31 ∷ offer idle ∷ fetch 0 ∷ save 0 ∷ load [] ∷ cabinet 19 ∷ keep []
+    ∷ recall [] 0 ∷ []) ≡ replicate 10 21
 unfolding numbers opened
 none = refl
 
@@ -37,8 +38,8 @@ held : numbers 4 (fetch 259 ∷ offer idle ∷ offer [] ∷ offer idle ∷ fetch
 unfolding numbers idle opened
 held = refl
 
--- 2 and 3 by `frame`, before what the bytes ask; 31 by a save, 71 by a cabinet's call, 83 by a handover
+-- 2 and 3 by `frame`, before what the bytes ask; 31 by a save, 71 by a cabinet's call, 83 by a handover, 51 by a keep and a recall
 others : numbers 4 (frame (0xAB ∷ 0x18 ∷ 0x00 ∷ 0x00 ∷ []) 259 ∷ frame (0xAA ∷ 0x00 ∷ 0x00 ∷ 0x00 ∷ []) 259 ∷ save 247 ∷ save 248 ∷ cabinet 19
-    ∷ cabinet 20 ∷ handover 0 31 ∷ handover 0 32 ∷ []) ≡ 2 ∷ 3 ∷ 31 ∷ 0 ∷ 71 ∷ 0 ∷ 83 ∷ 0 ∷ []
+    ∷ cabinet 20 ∷ handover 0 31 ∷ handover 0 32 ∷ keep [] ∷ recall [] 0 ∷ []) ≡ 2 ∷ 3 ∷ 31 ∷ 0 ∷ 71 ∷ 0 ∷ 83 ∷ 0 ∷ 51 ∷ 51 ∷ []
 unfolding numbers opened
 others = refl

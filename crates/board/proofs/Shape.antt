@@ -109,7 +109,7 @@ module _ (b : Board) (c : Call) where
 
 -- ---- a call that is lent an area: what the function that writes it says of it is what the call leaves
 
-left-in : (b : Board) (c : Call) (area before : List ℕ) → shape c .lent b ≡ areaLent area
+pub left-in : (b : Board) (c : Call) (area before : List ℕ) → shape c .lent b ≡ areaLent area
     → leftIn b c before ≡ cond (isDone (outcomeIn b c)) area before
 unfolding leftOf
 left-in b c area before lent = ap (λ l. leftOf l (outcomeIn b c) before) lent

@@ -15,7 +15,9 @@ use Rattle.refusals.specs.declared.Outcome.the-variants.{Done, Refused}
 use Rattle.refusals.specs.Refusals.{refusalNumber, leftBy, isDone, first}
 use Rattle.events.specs.Area.{saveRows, loadRows, areaOf, eventsIn, listOf}
 use Rattle.cabinet.specs.Cabinet.{cabinetRows, filledOf}
+use Rattle.classes.specs.Store.{editionsIn, keepRows, keptStore, recallRows, pairsFor}
 use Rattle.desk.specs.Desk.{recordRows, recordBytes}
+use Rattle.editions.specs.Editions.{nextEdition}
 use Rattle.readings.specs.declared.Readings.{Readings}
 use Rattle.readings.specs.Readings.{tickRows}
 use Rattle.receiver.specs.Receiver.{taken, filled}
@@ -25,16 +27,18 @@ use Rattle.answers.specs.Answers.{acceptedReply, askedRows, replyBy}
 use Rattle.board.specs.declared.Board.{Board}
 use Rattle.board.specs.declared.Answer.{Answer}
 use Rattle.board.specs.declared.Heard.{Heard}
+use Rattle.board.specs.declared.Stored.{Stored}
 use Rattle.board.specs.State.{usable, withEvents, withReceiver, measuredIn}
 use Rattle.board.specs.Tick.{tickedOf}
-use Rattle.board.specs.Changes.{changedBy, askedDeeds}
+use Rattle.board.specs.Changes.{written, changedBy, askedDeeds}
 use Rattle.board.specs.Line.{heldIn, holds, letGo}
 use Rattle.board.specs.Handover.{recordFor, handedOver}
-use Rattle.board.specs.Deeds.{Deed, took, handed, heard, fetched, loaded}
+use Rattle.board.specs.Deeds.{Deed, took, wrote, handed, heard, fetched, loaded}
 
 -- the calls after a start: a tick (cells and the other readings), a frame (its bytes, and the length of the reply buffer that is lent), and
 -- a handover (the desk's pack number, and the length of the record that is lent); of the raw line, an offer (its bytes) and a fetch (the length of the reply buffer that is lent); of the pack's memory, a save
--- (the length of the area that is lent) and a load (the area); for a partner's cabinet, the length of the slice that is lent
+-- (the length of the area that is lent) and a load (the area); for a partner's cabinet, the length of the slice that is lent;
+-- of hire classes, a keep (the store that is lent) and a recall (the store, and an edition)
 pub data Call : Type 0 where
   tick : List ℕ → Readings → Call
   frame : List ℕ → ℕ → Call
@@ -44,6 +48,8 @@ pub data Call : Type 0 where
   save : ℕ → Call
   load : List ℕ → Call
   cabinet : ℕ → Call
+  keep : List ℕ → Call
+  recall : List ℕ → ℕ → Call
 
 -- ---- the shape of a call
 
@@ -61,7 +67,7 @@ pub record Shape : Type 0 where
   pub done : Board → Board
   -- what it leaves in what is lent
   pub lent : Board → Lent
-  -- what its answer carries besides: how many bytes an offer took
+  -- what its answer carries besides: how many bytes an offer took, the edition under which settings are kept
   pub carries : Board → ℕ
   -- what it adds to a history, the newest first
   pub deeds : Board → List Deed
@@ -123,6 +129,21 @@ shape (save n) = showing (λ b. saveRows n) (λ b. areaOf (b .hire .events))
 shape (load area) = plain (λ b. loadRows area) (λ b. withEvents b (listOf (eventsIn area))) (λ b. loaded (eventsIn area) ∷ [])
 -- from the readings that the board holds, and nothing else
 shape (cabinet n) = showing (λ b. cabinetRows n) (λ b. filledOf (measuredIn b) 20)
+-- the board's settings under a new edition, which the answer carries
+shape (keep store) =
+    record {
+      rows = λ b. keepRows store;
+      done = λ b. b;
+      lent = λ b. areaLent (keptStore store (b .pack .settings));
+      carries = λ b. nextEdition (editionsIn store);
+      deeds = λ b. [];
+      onLine = false;
+      fetches = false;
+    }
+-- all twelve settings of an edition, as one write
+shape (recall store edition) =
+    plain (λ b. recallRows (b .pack .settings) store edition) (λ b. written b (pairsFor store edition))
+    (λ b. wrote (pairsFor store edition) ∷ [])
 
 -- ---- one call, of its shape
 
@@ -209,3 +230,6 @@ answerTo b c = record { outcome = outcomeIn b c; board = boardAfter b c }
 
 abbrev pub hearing : Board → Call → Heard
 hearing b c = record { outcome = outcomeIn b c; taken = carriedBy b c; board = boardAfter b c }
+
+abbrev pub storing : Board → Call → Stored
+storing b c = record { outcome = outcomeIn b c; edition = carriedBy b c; board = boardAfter b c }

@@ -15,6 +15,7 @@ use Rattle.events.specs.Events.{capacity, keptCount, newCount, keptOf, newOf, p
 use Rattle.board.specs.declared.Board.{Board}
 use Rattle.board.specs.declared.Answer.{Answer}
 use Rattle.board.specs.declared.Heard.{Heard}
+use Rattle.board.specs.declared.Stored.{Stored}
 use Rattle.answers.specs.declared.Shown.{Shown}
 use Rattle.answers.specs.Registers.{shownAt}
 use Rattle.answers.specs.Answers.{askedOutcome, askedReply}
@@ -24,7 +25,7 @@ use Rattle.board.specs.Start.{startOf}
 use Rattle.board.specs.State.{usable}
 use Rattle.board.specs.Line.{holds}
 use Rattle.board.specs.Changes.{changedBy}
-use Rattle.board.specs.Calls.{Call, offer, shape, outcomeIn, leftOf, answerTo, hearing}
+use Rattle.board.specs.Calls.{Call, offer, keep, shape, outcomeIn, leftOf, answerTo, hearing, storing}
 
 -- ---- the first rows of a frame and of a fetch
 
@@ -60,6 +61,11 @@ pub record Leaves (b : Board) (c : Call) (before : List ℕ) (r : Answer) (after
 
 abbrev pub Offers : Board → List ℕ → Heard → Type 0
 Offers b bytes r = r ≡ hearing b (offer bytes)
+
+-- the settings into a store: what it comes to, the edition, the board, and every byte of the store; one that is refused is as it was
+pub record Stores (b : Board) (store : List ℕ) (r : Stored) (after : List ℕ) : Type 0 where
+  pub answer : r ≡ storing b (keep store)
+  pub lent : after ≡ leftIn b (keep store) store
 
 pub record Roomed (b : Board) (room : ℕ) (r : Outcome) : Type 0 where
   pub outcome : r ≡ first (roomRows b room)

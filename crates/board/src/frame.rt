@@ -86,10 +86,8 @@ impl Board {
     fn write(self, request: &[u8], form: Form, count: u8) -> Board
         ensures { λ r. ⌜ r ≡ written self (pairsOf form (now (request .entry)) count) ⌝ }
     {
-        let hire = self.hire;
         let written = writes::written(self.pack.settings, request, form, count);
-        let pack = self.pack.with_settings(written.settings);
-        Board { pack, hire }
+        self.with_settings(written.settings)
     }
 
     fn marked(self, query: Query) -> Board

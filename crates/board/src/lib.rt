@@ -1,16 +1,17 @@
 // The board of one pack: a state that goes in by value and comes back. It takes a tick every 100 ms, a frame for each request,
 // or the bytes of the raw line as they come, and a handover between two riders; its events are saved and loaded, a partner's cabinet reads its
-// registers; what it shows can be read at any time.
+// registers, its settings are kept by hire class and recalled; what it shows can be read at any time.
 mod area;
 mod frame;
 mod line;
 mod partner;
 mod shown;
+mod store;
 mod tick;
 
 ghost use mathlib.Core.Path.{_≡_};
 ghost use lib.ListN.{length};
-ghost use Rattle.board.specs.State.{withHire};
+ghost use Rattle.board.specs.State.{withHire, withSettings};
 ghost use Rattle.board.specs.Calls.{handover};
 ghost use Rattle.board.specs.Handover.{recordFor};
 ghost use Rattle.board.specs.Promises.{Starts, Leaves};
@@ -18,6 +19,7 @@ use desk::Record;
 use hire::Hire;
 use pack::Pack;
 use refusals::Outcome;
+use settings::Settings;
 
 pub struct Board {
     pub pack: Pack, // all that a handover keeps
@@ -34,6 +36,13 @@ pub struct Answer {
 pub struct Heard {
     pub outcome: Outcome,
     pub taken: usize,
+    pub board: Board,
+}
+
+// What a keep gives back: what it came to, the new edition, 0 where there is none, and the board as it was.
+pub struct Stored {
+    pub outcome: Outcome,
+    pub edition: u32,
     pub board: Board,
 }
 
@@ -81,6 +90,15 @@ impl Board {
             outcome,
             board: self,
         }
+    }
+
+    // Other settings, and the rest as it was.
+    pub(crate) fn with_settings(self, settings: Settings) -> Board
+        ensures { λ r. ⌜ r ≡ withSettings self settings ⌝ }
+    {
+        let hire = self.hire;
+        let pack = self.pack.with_settings(settings);
+        Board { pack, hire }
     }
 
     // A new hire in the same pack.

@@ -14,6 +14,7 @@ use lib.ListN.{drop-of-length-le, getD-replicate, List·getD-append}
 use lib.Seq.{sets, sets-eq, length-sets, take-suc, take-all, take-at, drop-append-add, drop-drop, drop-cons, getD-append-add}
 use lib.Seq.{length-take-le, set-at, append-snoc}
 use Rattle.laws.specs.History.{each, any}
+use Rattle.laws.proofs.Lists.{each-more}
 use Rattle.numbers.specs.Numbers.{lowFirstOr, le32, Wrote}
 use Rattle.numbers.proofs.Writing.{in-parts}
 use Rattle.refusals.specs.declared.Refusal.the-variants.{WrongArea, UsedAfterUnused, NeverRecorded}
@@ -53,10 +54,6 @@ pub length-each : (rs : List Event) → length (each recordOf rs) ≡ 4 * length
 length-each [] = refl
 length-each (r ∷ rs) = let e = length-each rs in omega arith
 
-each-more : (rs : List Event) (r : Event) → each recordOf (rs ++ (r ∷ [])) ≡ each recordOf rs ++ recordOf r
-each-more [] r = refl
-each-more (x ∷ rs) r = ap (λ (l : List ℕ). recordOf x ++ l) (each-more rs r)
-
 -- the first i records stand at the front, and the rest of the area is as it was
 pub record Put (rs : List Event) (l₀ : List ℕ) (i : ℕ) (l : List ℕ) : Type 0 where
   pub same : length l ≡ length l₀
@@ -90,7 +87,7 @@ one-put {rs} {l₀} {l} {l₁} {i} {r} p h k q put =
           ∙ ap₂ (λ (a : List ℕ) (n : ℕ). a ++ drop n l₀)
           (ap (λ (r : Event). front ++ recordOf r) q
           ∙ sym (ap (λ (n : ℕ). each recordOf (take n rs)) (add-one i) ∙ ap (each recordOf) (take-suc rs i noEvent h)
-          ∙ each-more (take i rs) (placed rs i)))
+          ∙ each-more recordOf (take i rs) (placed rs i)))
           (let n : 4 * i + 4 ≡ 4 * (i + 1) = omega arith in n);
     }
 
@@ -200,33 +197,6 @@ parted-after (r ∷ rs) = go (used r) refl (parted-after rs)
         → cond t (parted rs) (any used rs) ≡ any used (drop (length (cond t (r ∷ usedOf rs) [])) (r ∷ rs))
     go true e i = i
     go false e i = ap (λ (u : Bool). cond u true (any used rs)) (sym e)
-
--- ---- does one of them pass, from a place on
-
-module _ (p : Event → Bool) where
-  -- none before the place i
-  pub record Without (rs : List Event) (from i : ℕ) : Type 0 where
-    pub so-far : any p (drop from rs) ≡ any p (drop i rs)
-
-  pub none-yet : {rs : List Event} {from : ℕ} → Without rs from from
-  none-yet = record { so-far = refl }
-
-  here : (rs : List Event) (i : ℕ) → i < length rs → any p (drop i rs) ≡ cond (p (placed rs i)) true (any p (drop (i + 1) rs))
-  here rs i h = ap (any p) (drop-cons rs i noEvent h) ∙ ap (λ (n : ℕ). cond (p (placed rs i)) true (any p (drop n rs))) (sym (add-one i))
-
-  -- where `t` says of the record r at the place whether it passes
-  pub not-here : {rs : List Event} {from i : ℕ} {r : Event} {t : Bool} → Without rs from i → i < length rs → r ≡ placed rs i → t ≡ p r
-      → t ≡ false → Without rs from (i + 1)
-  not-here {rs} {from} {i} w h q k e =
-      record { so-far = w .so-far ∙ here rs i h ∙ ap (λ (t : Bool). cond t true (any p (drop (i + 1) rs))) (ap p (sym q) ∙ sym k ∙ e) }
-
-  pub found : {rs : List Event} {from i : ℕ} {r : Event} {t : Bool} → Without rs from i → i < length rs → r ≡ placed rs i → t ≡ p r
-      → t ≡ true → true ≡ any p (drop from rs)
-  found {rs} {from} {i} w h q k e =
-      sym (w .so-far ∙ here rs i h ∙ ap (λ (t : Bool). cond t true (any p (drop (i + 1) rs))) (ap p (sym q) ∙ sym k ∙ e))
-
-  pub nowhere : {rs : List Event} {from i : ℕ} → Without rs from i → length rs ≤ i → false ≡ any p (drop from rs)
-  nowhere {rs} {from} {i} w h = sym (w .so-far ∙ ap (any p) (drop-of-length-le rs {i = i} h))
 
 -- ---- copied into the last places
 

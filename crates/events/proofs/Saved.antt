@@ -13,6 +13,8 @@ use lib.ListN.{length, take, drop, getD, replicate, length-append, length-replic
 use lib.ListN.{take-append-drop, drop-of-length-le}
 use lib.Seq.{drop-at, drop-drop}
 use Rattle.laws.specs.History.{each, any}
+use Rattle.laws.proofs.Lists.{each-append}
+use Rattle.laws.proofs.Looking.{none-first, none-after}
 use Rattle.numbers.specs.Numbers.{lowFirstOr}
 use Rattle.numbers.proofs.ReadBack.{stands, writes-back}
 use Rattle.refusals.specs.declared.Refusal.the-variants.{WrongArea, UsedAfterUnused, NeverRecorded}
@@ -79,17 +81,12 @@ each-unused (suc m) =
     let n : suc (suc (suc (suc (4 * m)))) ≡ 4 * suc m = omega arith in
     ap (λ (l : List ℕ). recordOf noRecord ++ l) (each-unused m) ∙ ap (λ (k : ℕ). replicate {A = ℕ} k 0xFF) n
 
-each-append : (rs ss : List Event) → each recordOf (rs ++ ss) ≡ each recordOf rs ++ each recordOf ss
-each-append [] ss = refl
-each-append (r ∷ rs) ss = ap (λ (l : List ℕ). recordOf r ++ l) (each-append rs ss)
-    ∙ sym (append-assoc (recordOf r) (each recordOf rs) (each recordOf ss))
-
 -- fewer records than places are read as themselves and unused ones
 pub few-back : (rs : List Event) (n : ℕ) → length rs + n ≡ capacity → recordsIn (each recordOf rs) ≡ rs ++ replicate n noRecord
 few-back rs n h =
     sym (unused-after (each recordOf rs) (4 * n))
     ∙ ap (λ (l : List ℕ). recordsIn (each recordOf rs ++ l)) (sym (each-unused n))
-    ∙ ap recordsIn (sym (each-append rs (replicate n noRecord)))
+    ∙ ap recordsIn (sym (each-append recordOf rs (replicate n noRecord)))
     ∙ records-back (rs ++ replicate n noRecord) (simp (length-append, length-replicate) h)
 
 -- ---- an area and its records
@@ -112,11 +109,6 @@ unfolding recordsIn
 area-back area b h = each-back area b 0 capacity (h ∙ sym (zero-add areaLength))
 
 -- ---- used records, and unused ones behind them
-
--- neither passes
-neither : (t u : Bool) → cond t true u ≡ false → (t ≡ false) × (u ≡ false)
-neither true u e = absurd (false≢true (sym e))
-neither false u e = (refl, e)
 
 -- an event with a number that the board never records, used or not
 abbrev pub unrecorded : Event → Bool
@@ -148,8 +140,8 @@ kept-read : (m : ℕ) (ks : List Event) → any unrecorded ks ≡ false → Read
 unfolding usedOf parted
 kept-read m [] h = unused-read m
 kept-read m (k ∷ ks) h =
-    let (known, others) = neither (unrecorded k) (any unrecorded ks) h in
-    let (read, whole, ours) = kept-read m ks others in
+    let known = none-first (unrecorded k) (any unrecorded ks) h in
+    let (read, whole, ours) = kept-read m ks (none-after (unrecorded k) (any unrecorded ks) h) in
     let rs = ks ++ replicate m noRecord in
     let kept = is-used k known in (
       ap₂ (λ (t : Bool) (es : List Event). cond t (k ∷ es) []) kept read,
@@ -169,8 +161,7 @@ unused r h = go (eqb (r .bytes) (noRecord .bytes)) refl h
 all-unused : (rs : List Event) → any used rs ≡ false → rs ≡ replicate (length rs) noRecord
 all-unused [] h = refl
 all-unused (r ∷ rs) h =
-    let (this, others) = neither (used r) (any used rs) h in
-    ap₂ {C = List Event} _∷_ (unused r this) (all-unused rs others)
+    ap₂ {C = List Event} _∷_ (unused r (none-first (used r) (any used rs) h)) (all-unused rs (none-after (used r) (any used rs) h))
 
 unused-rest : (rs : List Event) → parted rs ≡ false → usedOf rs ++ replicate (length rs - length (usedOf rs)) noRecord ≡ rs
 unfolding usedOf parted

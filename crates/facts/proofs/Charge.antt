@@ -37,7 +37,7 @@ use Rattle.board.specs.Start.{startBoard}
 use Rattle.board.specs.Line.{heldIn, letGo}
 use Rattle.board.specs.Handover.{recordFor, handedOver}
 use Rattle.board.specs.Changes.{changedBy, askedDeeds}
-use Rattle.board.specs.Calls.{Call, tick, frame, handover, offer, fetch, save, load, cabinet}
+use Rattle.board.specs.Calls.{Call, tick, frame, handover, offer, fetch, save, load, cabinet, keep, recall}
 use Rattle.board.specs.Calls.{Seen, seen, Lent, nothingLent, areaLent, replyLent, shape, outcomeOf, letsGo, boardBy, seenOf, outcomeIn, boardAfter, step}
 use Rattle.board.specs.Behaviour.{Behaviour, board, afterIn, answersIn}
 use Rattle.board.specs.Account.{Deed, took, wrote, cleared, forgot, sent, handed, heard, fetched, loaded, row, clears, hands, ticking}
@@ -215,6 +215,24 @@ module _ (b : Board) (x : Sums) where
     seen-alike = λ o e. refl;
   }
   hides (cabinet n) = record {
+    rows = refl;
+    carries = refl;
+    deeds-alike = refl;
+    sums = x;
+    done = refl;
+    fresh = λ e. absurd (false≢true e);
+    seen-alike = λ o e. refl;
+  }
+  hides (keep store) = record {
+    rows = refl;
+    carries = refl;
+    deeds-alike = refl;
+    sums = x;
+    done = refl;
+    fresh = λ e. absurd (false≢true e);
+    seen-alike = λ o e. refl;
+  }
+  hides (recall store edition) = record {
     rows = refl;
     carries = refl;
     deeds-alike = refl;

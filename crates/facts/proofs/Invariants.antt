@@ -23,6 +23,8 @@ use lib.Ieee.Positive.{first-pos}
 use Rattle.laws.specs.Fold.{gather}
 use Rattle.laws.specs.History.{never, since, each, headOr, sum, newest, ago, latest, waits}
 use Rattle.laws.proofs.Lists.{length-latest, timer, waited}
+use Rattle.classes.specs.Store.{pairsIn, classFor, pairsFor}
+use Rattle.classes.proofs.Pieces.{class-below}
 use Rattle.cells.specs.Cells.{sumOf, lowestOf, highestOf}
 use Rattle.events.specs.Events.{capacity, noEvent, keptCount, newCount}
 use Rattle.guard.specs.Guard.{noneRemembered}
@@ -58,7 +60,7 @@ use Rattle.receiver.specs.Receiver.{noBytes, heldOf, holding, isHeld, skips, wi
 use Rattle.receiver.specs.Heard.{begun}
 use Rattle.receiver.proofs.Heard.{held, ours}
 use Rattle.board.proofs.Account.Calls.{heard-more}
-use Rattle.board.specs.Calls.{Call, tick, frame, handover, offer, fetch, save, load, cabinet, shape}
+use Rattle.board.specs.Calls.{Call, tick, frame, handover, offer, fetch, save, load, cabinet, keep, recall, shape}
 use Rattle.board.specs.Changes.{askedDeeds}
 use Rattle.board.specs.Calls.{letsGo, boardBy, outcomeIn, boardAfter}
 use Rattle.board.specs.Handover.{handedOver}
@@ -134,7 +136,7 @@ gathered-within (x ∷ xs) a b =
 
 -- ---- the ticks that were accepted
 
--- a tick's cells are of sixteen bits, and a frame's, an offer's and a loaded area's bytes of eight
+-- a tick's cells are of sixteen bits, and a frame's, an offer's, a loaded area's and a store's bytes of eight
 abbrev pub TypedCall : Call → Type 0
 TypedCall (tick given r) = All (λ c. c ≤ 65535) given
 TypedCall (frame s room) = All (λ byte. byte ≤ 255) s
@@ -144,6 +146,8 @@ TypedCall (fetch room) = Unit {0}
 TypedCall (save n) = Unit {0}
 TypedCall (cabinet n) = Unit {0}
 TypedCall (load area) = All (λ byte. byte ≤ 255) area
+TypedCall (keep store) = All (λ byte. byte ≤ 255) store
+TypedCall (recall store edition) = All (λ byte. byte ≤ 255) store
 
 abbrev pub Typed : List Call → Type 0
 Typed cs = All TypedCall cs
@@ -173,13 +177,13 @@ sixteen f s (suc n) typed = (go f, sixteen f s n typed)
     high : (i : ℕ) → be16At s i < 65536
     high i = let a = byte s i typed in let b = byte s (i + 1) typed in omega arith
 
-    low : (i : ℕ) → le16At s i < 65536
-    low i = let a = byte s i typed in let b = byte s (i + 1) typed in omega arith
+    low-first : (i : ℕ) → le16At s i < 65536
+    low-first i = let a = byte s i typed in let b = byte s (i + 1) typed in omega arith
 
     go : (f : Form) → Sixteen (pairAt f s n)
     go form.Modbus = high (7 + 2 * n)
-    go form.Block = low (5 + 2 * n)
-    go form.List = low (5 + 4 * n)
+    go form.Block = low-first (5 + 2 * n)
+    go form.List = low-first (5 + 4 * n)
 
 abbrev pub Bytes : List ℕ → Type 0
 Bytes s = All (λ b. b ≤ 255) s
@@ -188,6 +192,19 @@ all-taken : (n : ℕ) (bytes : List ℕ) → Bytes bytes → Bytes (take n bytes
 all-taken zero bytes p = tt
 all-taken (suc n) [] p = tt
 all-taken (suc n) (b ∷ bytes) p = (p .0, all-taken n bytes (p .1))
+
+-- the twelve registers of a record of a store
+twelve-sixteen : (r : List ℕ) (n : ℕ) → ((i : ℕ) → getD r i 0 ≤ 255) → All Sixteen (pairsIn r n)
+unfolding pairsIn
+twelve-sixteen r zero bytes = tt
+twelve-sixteen r (suc n) bytes =
+    let a = bytes (4 + 2 * n) in
+    let b = bytes (4 + 2 * n + 1) in
+    (omega arith, twelve-sixteen r n bytes)
+
+recalled-sixteen : (store : List ℕ) (edition : ℕ) → Bytes store → All Sixteen (pairsFor store edition)
+recalled-sixteen store edition typed =
+    twelve-sixteen (classFor store edition) 12 (λ j. class-below 255 store edition j (λ i. byte store i typed))
 
 all-begun : (bytes : List ℕ) → Bytes bytes → Bytes (begun bytes)
 all-begun [] p = tt
@@ -227,6 +244,8 @@ module _ (cells perKm : ℕ) where
   typed-deeds h (save n) t p = tt
   typed-deeds h (cabinet n) t p = tt
   typed-deeds h (load area) t p = ((tt, tt, tt), tt)
+  typed-deeds h (keep store) t p = tt
+  typed-deeds h (recall store edition) t p = ((tt, recalled-sixteen store edition t, tt), tt)
 
   still-bytes : (d : Deed) (k : List Deed) → TypedDeed d → Bytes (heardAt k) → Bytes (heardAt (d ∷ k))
   unfolding heardAt
@@ -556,6 +575,8 @@ done-in-room b (offer bytes) t i = offer-in-room bytes (b .hire .receiver) t i
 done-in-room b (fetch room) t i = none-in-room
 done-in-room b (save n) t i = i
 done-in-room b (cabinet n) t i = i
+done-in-room b (keep store) t i = i
+done-in-room b (recall store edition) t i = i
 done-in-room b (load area) t i = i
 
 call-in-room : (b : Board) (c : Call) → TypedCall c → BoardInRoom b → BoardInRoom (boardAfter b c)

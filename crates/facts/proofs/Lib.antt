@@ -17,3 +17,4 @@ pub mod Payloads
 pub mod Why
 pub mod EqualReadings
 pub mod Charge
+pub mod Classes

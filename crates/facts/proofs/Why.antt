@@ -17,6 +17,7 @@ use Rattle.refusals.specs.declared.Refusal.the-variants.{NoRoom, Foreign, Damag
 use Rattle.refusals.specs.declared.Refusal.the-variants.{OutOfRange, OutOfOrder, FrameHeld, NoFrameHeld}
 use Rattle.refusals.specs.declared.Refusal.the-variants.{WrongCells, WrongCurrent, NoInternal, WrongPulses, NoBoard, WrongArea}
 use Rattle.refusals.specs.declared.Refusal.the-variants.{UsedAfterUnused, NeverRecorded, BadRecord, CutRecord, WrongSlice}
+use Rattle.refusals.specs.declared.Refusal.the-variants.{WrongStore, SpoiltStore, NoEdition, BrokenRules, EditionsUsedUp}
 use Rattle.refusals.specs.declared.Refusal.the-variants.{CutBill, PastTotal, WrongRecord}
 use Rattle.refusals.specs.declared.Outcome.{Outcome}
 use Rattle.refusals.specs.declared.Outcome.the-variants.{Done, Refused}
@@ -146,6 +147,11 @@ nacked NoBoard e = absurd (false≢true e)
 nacked WrongArea e = absurd (false≢true e)
 nacked UsedAfterUnused e = absurd (false≢true e)
 nacked NeverRecorded e = absurd (false≢true e)
+nacked WrongStore e = absurd (false≢true e)
+nacked SpoiltStore e = absurd (false≢true e)
+nacked NoEdition e = absurd (false≢true e)
+nacked BrokenRules e = absurd (false≢true e)
+nacked EditionsUsedUp e = absurd (false≢true e)
 nacked BadRecord e = absurd (false≢true e)
 nacked CutRecord e = absurd (false≢true e)
 nacked WrongSlice e = absurd (false≢true e)

@@ -2,7 +2,7 @@
 -- Assumes nothing.
 use mathlib.Core.Path.{_≡_, refl, sym, ap, ap₂, _∙_}
 use mathlib.Core.Bool.{Bool, true, false}
-use mathlib.Core.List.{List, _++_}
+use mathlib.Core.List.{List, _++_, append-nil}
 use Prim.Native.Nat.{ℕ, suc, _+_, _-_, _<_, _≤_, min}
 use native.Mathlib.Nat.{sub-zero}
 use native.Mathlib.Numerals.{add-one}
@@ -49,3 +49,14 @@ all-copied {n} {xs} {i} {l} c h =
     same false e =
         let g : length xs < n = leb-false n (length xs) e in
         take-all i xs (omega (arith, c .within)) ∙ sym (take-all n xs (omega arith))
+
+-- ---- a list that is as long as the zeros
+
+pub one-in : {n : ℕ} {xs : List ℕ} {i v : ℕ} {l : List ℕ} → Copied n xs i l → length xs ≡ n → i < n → v ≡ getD xs i 0
+    → Copied n xs (i + 1) (set l i v)
+one-in {n} {xs} {i} {v} {l} c m h q = rw q (one-copied c (omega arith))
+
+pub all-in : {n : ℕ} {xs : List ℕ} {i : ℕ} {l : List ℕ} → Copied n xs i l → length xs ≡ n → n ≤ i → l ≡ xs
+all-in {n} {xs} {i} {l} c m h =
+    let z : n - length xs ≡ 0 = omega arith in
+    all-copied c (omega arith) ∙ rw (z, take-all n xs (omega arith)) (append-nil xs)

@@ -19,6 +19,14 @@ pub pour-append : {A S : Type 0} (f : S → A → S) (z : S) (xs ys : List A) �
 pour-append f z [] ys = refl
 pour-append f z (x ∷ xs) ys = ap (λ s. f s x) (pour-append f z xs ys)
 
+-- what each of them gives, in two parts
+pub each-append : {A B : Type 0} (f : A → List B) (xs ys : List A) → each f (xs ++ ys) ≡ each f xs ++ each f ys
+each-append f [] ys = refl
+each-append {A} {B} f (x ∷ xs) ys = ap (λ (l : List B). f x ++ l) (each-append f xs ys) ∙ sym (append-assoc (f x) (each f xs) (each f ys))
+
+pub each-more : {A B : Type 0} (f : A → List B) (xs : List A) (x : A) → each f (xs ++ (x ∷ [])) ≡ each f xs ++ f x
+each-more {A} {B} f xs x = each-append f xs (x ∷ []) ∙ ap (λ (l : List B). each f xs ++ l) (append-nil (f x))
+
 -- ---- the latest n, shifted by one place
 
 module _ {A : Type 0} where

@@ -9,6 +9,7 @@ use Rattle.refusals.specs.declared.Refusal.the-variants.{NoRoom, Foreign
 use Rattle.refusals.specs.declared.Refusal.the-variants.{OutOfRange, OutOfOrder, FrameHeld, NoFrameHeld}
 use Rattle.refusals.specs.declared.Refusal.the-variants.{WrongCells, WrongCurrent, NoInternal, WrongPulses, NoBoard, WrongArea}
 use Rattle.refusals.specs.declared.Refusal.the-variants.{UsedAfterUnused, NeverRecorded, BadRecord, CutRecord, WrongSlice}
+use Rattle.refusals.specs.declared.Refusal.the-variants.{WrongStore, SpoiltStore, NoEdition, BrokenRules, EditionsUsedUp}
 use Rattle.refusals.specs.declared.Refusal.the-variants.{CutBill, PastTotal, WrongRecord}
 use Rattle.refusals.specs.declared.Left.the-variants.{Zeros, Nack}
 use Rattle.refusals.specs.Refusals.{refusalNumber, leftBy, numberOf, first}
@@ -25,13 +26,13 @@ frame-replies : map leftBy frames ≡ Zeros ∷ Zeros ∷ Nack 0x01 ∷ Nack 0x0
 unfolding frames
 frame-replies = refl
 
--- of a tick and of a start; of the raw line; of an area; of a recording; of a cabinet's slice; of records of hires
+-- of a tick and of a start; of the raw line; of an area; of a store; of a recording; of a cabinet's slice; of records of hires
 others : List Refusal
 others =
     WrongCells ∷ WrongCurrent ∷ NoInternal ∷ WrongPulses ∷ NoBoard ∷ FrameHeld ∷ NoFrameHeld ∷ WrongArea ∷ UsedAfterUnused ∷ NeverRecorded
-    ∷ BadRecord ∷ CutRecord ∷ WrongSlice ∷ CutBill ∷ PastTotal ∷ WrongRecord ∷ []
+    ∷ WrongStore ∷ SpoiltStore ∷ NoEdition ∷ BrokenRules ∷ EditionsUsedUp ∷ BadRecord ∷ CutRecord ∷ WrongSlice ∷ CutBill ∷ PastTotal ∷ WrongRecord ∷ []
 
-other-numbers : map refusalNumber others ≡ 11 ∷ 12 ∷ 13 ∷ 14 ∷ 21 ∷ 6 ∷ 7 ∷ 31 ∷ 32 ∷ 33 ∷ 61 ∷ 62 ∷ 71 ∷ 81 ∷ 82 ∷ 83 ∷ []
+other-numbers : map refusalNumber others ≡ 11 ∷ 12 ∷ 13 ∷ 14 ∷ 21 ∷ 6 ∷ 7 ∷ 31 ∷ 32 ∷ 33 ∷ 51 ∷ 52 ∷ 53 ∷ 54 ∷ 55 ∷ 61 ∷ 62 ∷ 71 ∷ 81 ∷ 82 ∷ 83 ∷ []
 unfolding others
 other-numbers = refl
 

@@ -9,13 +9,14 @@ use Rattle.refusals.specs.declared.Refusal.the-variants.{NoRoom, Foreign
 use Rattle.refusals.specs.declared.Refusal.the-variants.{OutOfRange, OutOfOrder, FrameHeld, NoFrameHeld}
 use Rattle.refusals.specs.declared.Refusal.the-variants.{WrongCells, WrongCurrent, NoInternal, WrongPulses, NoBoard, WrongArea}
 use Rattle.refusals.specs.declared.Refusal.the-variants.{UsedAfterUnused, NeverRecorded, BadRecord, CutRecord, WrongSlice}
+use Rattle.refusals.specs.declared.Refusal.the-variants.{WrongStore, SpoiltStore, NoEdition, BrokenRules, EditionsUsedUp}
 use Rattle.refusals.specs.declared.Refusal.the-variants.{CutBill, PastTotal, WrongRecord}
 use Rattle.refusals.specs.declared.Left.{Left}
 use Rattle.refusals.specs.declared.Left.the-variants.{Zeros, Nack}
 use Rattle.refusals.specs.declared.Outcome.{Outcome}
 use Rattle.refusals.specs.declared.Outcome.the-variants.{Done, Refused}
 
--- document 01: frames, ticks, a start; and W-201, W-205, W-208 (41 to 45 in the place of 4), W-211, W-213 and W-214 of document 02. There is no number 5
+-- document 01: frames, ticks, a start; and W-201, W-205, W-208 (41 to 45 in the place of 4), W-210, W-211, W-213 and W-214 of document 02. There is no number 5
 -- since W-209
 abbrev pub refusalNumber : Refusal → ℕ
 refusalNumber NoRoom = 1
@@ -36,6 +37,11 @@ refusalNumber NoBoard = 21
 refusalNumber WrongArea = 31
 refusalNumber UsedAfterUnused = 32
 refusalNumber NeverRecorded = 33
+refusalNumber WrongStore = 51
+refusalNumber SpoiltStore = 52
+refusalNumber NoEdition = 53
+refusalNumber BrokenRules = 54
+refusalNumber EditionsUsedUp = 55
 refusalNumber BadRecord = 61
 refusalNumber CutRecord = 62
 refusalNumber WrongSlice = 71
@@ -63,6 +69,11 @@ refusalRegister NoBoard = 0
 refusalRegister WrongArea = 0
 refusalRegister UsedAfterUnused = 0
 refusalRegister NeverRecorded = 0
+refusalRegister WrongStore = 0
+refusalRegister SpoiltStore = 0
+refusalRegister NoEdition = 0
+refusalRegister BrokenRules = 0
+refusalRegister EditionsUsedUp = 0
 refusalRegister BadRecord = 0
 refusalRegister CutRecord = 0
 refusalRegister WrongSlice = 0
@@ -90,6 +101,11 @@ leftBy NoBoard = Zeros
 leftBy WrongArea = Zeros
 leftBy UsedAfterUnused = Zeros
 leftBy NeverRecorded = Zeros
+leftBy WrongStore = Zeros
+leftBy SpoiltStore = Zeros
+leftBy NoEdition = Zeros
+leftBy BrokenRules = Zeros
+leftBy EditionsUsedUp = Zeros
 leftBy BadRecord = Zeros
 leftBy CutRecord = Zeros
 leftBy WrongSlice = Zeros

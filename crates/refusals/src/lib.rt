@@ -21,6 +21,11 @@ pub enum Refusal {
     WrongArea, // not of the length of an area
     UsedAfterUnused, // a used record after an unused one
     NeverRecorded, // an event number that the board never records
+    WrongStore, // a store that is not of 512 bytes
+    SpoiltStore, // a store with an edition twice, or nonzero where zero is asked
+    NoEdition, // an edition that is not found, or 0
+    BrokenRules, // an edition whose settings break the rules
+    EditionsUsedUp, // no edition is left
     BadRecord, // a bad record of a recording
     CutRecord, // a cut last record
     WrongSlice, // not of a cabinet's twenty registers
@@ -95,6 +100,11 @@ impl Refusal {
             Refusal::WrongArea => 31,
             Refusal::UsedAfterUnused => 32,
             Refusal::NeverRecorded => 33,
+            Refusal::WrongStore => 51,
+            Refusal::SpoiltStore => 52,
+            Refusal::NoEdition => 53,
+            Refusal::BrokenRules => 54,
+            Refusal::EditionsUsedUp => 55,
             Refusal::BadRecord => 61,
             Refusal::CutRecord => 62,
             Refusal::WrongSlice => 71,
@@ -135,6 +145,11 @@ impl Refusal {
             Refusal::WrongArea => Left::Zeros,
             Refusal::UsedAfterUnused => Left::Zeros,
             Refusal::NeverRecorded => Left::Zeros,
+            Refusal::WrongStore => Left::Zeros,
+            Refusal::SpoiltStore => Left::Zeros,
+            Refusal::NoEdition => Left::Zeros,
+            Refusal::BrokenRules => Left::Zeros,
+            Refusal::EditionsUsedUp => Left::Zeros,
             Refusal::BadRecord => Left::Zeros,
             Refusal::CutRecord => Left::Zeros,
             Refusal::WrongSlice => Left::Zeros,

@@ -14,7 +14,8 @@ use text::signed_number;
 
 const LONGEST_LINE: usize = 4000;
 
-pub(crate) const MOST_BYTES: usize = 300;
+// Of a request, an offer or an area; a store may be as long as any buffer.
+const MOST_BYTES: usize = 300;
 
 pub(crate) const MOST_CELLS: usize = 32;
 
@@ -38,6 +39,10 @@ pub(crate) enum Call {
     Cabinet { length: usize },
     Handover,
     Record { number: u32, length: usize },
+    Store { length: usize, count: usize },
+    Keep,
+    Recall { edition: u32 },
+    Tidy,
     Crc(u16),
     Register(u16),
 }
@@ -85,7 +90,7 @@ fn named_call(line: &[u8], at: usize, request: &mut [u8], voltages: &mut [u16]) 
     rarer_call(line, at, request)
 }
 
-// The pack's memory, a partner's cabinet, and what is no call of the board.
+// The pack's memory, a partner's cabinet, and what comes more seldom.
 fn rarer_call(line: &[u8], at: usize, request: &mut [u8]) -> Call {
     let save = after_word(line, at, b"save");
     if 0 < save {
@@ -98,6 +103,27 @@ fn rarer_call(line: &[u8], at: usize, request: &mut [u8]) -> Call {
     let cabinet = after_word(line, at, b"cabinet");
     if 0 < cabinet {
         return cabinet_call(line, cabinet);
+    }
+    let store = after_word(line, at, b"store");
+    if 0 < store {
+        return store_call(line, store, request);
+    }
+    rarest_call(line, at, request)
+}
+
+// Hire classes, and what is no call of the board.
+fn rarest_call(line: &[u8], at: usize, request: &mut [u8]) -> Call {
+    let keep = after_word(line, at, b"keep");
+    if 0 < keep {
+        return lone_call(line, keep, Call::Keep);
+    }
+    let recall = after_word(line, at, b"recall");
+    if 0 < recall {
+        return recall_call(line, recall);
+    }
+    let tidy = after_word(line, at, b"tidy");
+    if 0 < tidy {
+        return lone_call(line, tidy, Call::Tidy);
     }
     let crc = after_word(line, at, b"crc");
     if 0 < crc {
@@ -156,7 +182,7 @@ fn frame_call(line: &[u8], from: usize, request: &mut [u8]) -> Call {
     if !room.good {
         return Call::Wrong;
     }
-    let given = bytes(line, room.next, request);
+    let given = request_bytes(line, room.next, request);
     let Series::Of(count) = given else {
         return Call::Wrong;
     };
@@ -167,7 +193,7 @@ fn frame_call(line: &[u8], from: usize, request: &mut [u8]) -> Call {
 }
 
 fn offer_call(line: &[u8], from: usize, request: &mut [u8]) -> Call {
-    let given = bytes(line, from, request);
+    let given = request_bytes(line, from, request);
     match given {
         Series::Of(count) => Call::Offer { count },
         Series::Wrong => Call::Wrong,
@@ -205,7 +231,7 @@ fn cabinet_call(line: &[u8], from: usize) -> Call {
 }
 
 fn load_call(line: &[u8], from: usize, request: &mut [u8]) -> Call {
-    let given = bytes(line, from, request);
+    let given = request_bytes(line, from, request);
     match given {
         Series::Of(count) => Call::Load { count },
         Series::Wrong => Call::Wrong,
@@ -229,7 +255,7 @@ fn handover_call(line: &[u8], from: usize) -> Call {
 }
 
 fn crc_call(line: &[u8], from: usize, request: &mut [u8]) -> Call {
-    let given = bytes(line, from, request);
+    let given = request_bytes(line, from, request);
     let Series::Of(count) = given else {
         return Call::Wrong;
     };
@@ -243,6 +269,55 @@ fn register_call(line: &[u8], from: usize) -> Call {
         return Call::Register(at.value as u16);
     }
     Call::Wrong
+}
+
+// A length, and no more bytes than it says.
+fn store_call(line: &[u8], from: usize, request: &mut [u8]) -> Call {
+    let length = number(line, from, MOST_ROOM as u32);
+    if !length.good {
+        return Call::Wrong;
+    }
+    let room = lesser(length.value as usize, request.len());
+    let given = bytes(line, length.next, &mut request[0..room]);
+    match given {
+        Series::Of(count) => Call::Store {
+            length: length.value as usize,
+            count,
+        },
+        Series::Wrong => Call::Wrong,
+    }
+}
+
+fn recall_call(line: &[u8], from: usize) -> Call {
+    let edition = only_number(line, from, 4294967295);
+    if edition.good {
+        return Call::Recall {
+            edition: edition.value as u32,
+        };
+    }
+    Call::Wrong
+}
+
+// A word that stands alone.
+fn lone_call(line: &[u8], from: usize, call: Call) -> Call {
+    if is_last(line, from) {
+        return call;
+    }
+    Call::Wrong
+}
+
+// How long the console's store is after a call, where it was so long before it.
+pub(crate) fn store_length(call: Call, length: usize) -> usize {
+    match call {
+        Call::Store { length, count: _ } => lesser(length, MOST_ROOM),
+        _ => length,
+    }
+}
+
+// Bytes of a request, an offer or an area.
+fn request_bytes(line: &[u8], from: usize, request: &mut [u8]) -> Series {
+    let room = lesser(MOST_BYTES, request.len());
+    bytes(line, from, &mut request[0..room])
 }
 
 // The next word, which has to be the last, as a number from 0 to `most`.

@@ -6,9 +6,10 @@ mod turns;
 ghost use Prim.Native.Nat.{_≤_};
 ghost use lib.ListN.{length};
 use crate::calls::Call;
-use crate::calls::MOST_BYTES;
 use crate::calls::MOST_CELLS;
+use crate::calls::MOST_ROOM;
 use crate::calls::call_of;
+use crate::calls::store_length;
 use crate::turns::answered;
 use board::Board;
 use numbers::lesser;
@@ -32,9 +33,13 @@ const ANSWER_ROOM: usize = 2048;
 // The end that the last line is given where it lacks its own. Its CR goes with its LF, so one before it is a byte of the line.
 const LAST_END: [u8; 2] = *b"\r\n";
 
-// The board after the lines of a block, and whether every answer is written.
+// How long the console's store is before the first `store`: all zeros.
+const STORE: usize = 512;
+
+// The board after the lines of a block, how long the store is, and whether every answer is written.
 struct Answered {
     board: Board,
+    length: usize,
     is_written: bool,
 }
 
@@ -52,27 +57,38 @@ pub fn serve(name: &[u8]) {
 fn answer_all(name: &[u8], prompts: bool, block: &mut [u8], line: &mut [u8], out: &mut [u8]) {
     let first = Board::start(0, 0);
     let mut board = first.board;
+    let mut store = [0u8; MOST_ROOM];
+    let mut length = STORE;
     let mut is_written = true;
     let mut held = 0;
     let mut turns = u64::MAX;
     let mut got = block_read(true, prompts, block);
     while 0 < turns && 0 < got.count {
         let part = lesser(got.count, block.len());
-        let next = block_answered(board, &block[0..part], line, held, out);
+        let next = block_answered(board, &mut store, length, &block[0..part], line, held, out);
         board = next.board;
+        length = next.length;
         is_written = next.is_written;
         held = carried(line, held, &block[0..part]);
         got = block_read(is_written, prompts, block);
         turns -= 1;
     }
-    let is_ended = end_answered(got.is_well, board, line, held, out);
+    let is_ended = end_answered(got.is_well, board, &mut store, length, line, held, out);
     tell_failure(name, got.is_well, is_written & is_ended);
 }
 
 // The last line, where it lacks its end: whether its answer is written. Of a line whose read failed no call is made.
-fn end_answered(is_read: bool, board: Board, line: &mut [u8], held: usize, out: &mut [u8]) -> bool {
+fn end_answered(
+    is_read: bool,
+    board: Board,
+    store: &mut [u8],
+    length: usize,
+    line: &mut [u8],
+    held: usize,
+    out: &mut [u8],
+) -> bool {
     if is_read {
-        let last = block_answered(board, &LAST_END, line, held, out);
+        let last = block_answered(board, store, length, &LAST_END, line, held, out);
         return last.is_written;
     }
     true
@@ -89,12 +105,14 @@ fn block_read(goes_on: bool, prompts: bool, block: &mut [u8]) -> Got {
 // Every line that the block ends, until an answer cannot be written; of the first of them so many bytes are held.
 fn block_answered(
     mut board: Board,
+    store: &mut [u8],
+    mut length: usize,
     block: &[u8],
     line: &mut [u8],
     mut held: usize,
     out: &mut [u8],
 ) -> Answered {
-    let mut request = [0u8; MOST_BYTES];
+    let mut request = [0u8; MOST_ROOM];
     let mut voltages = [0u16; MOST_CELLS];
     let mut said = Waiting {
         count: 0,
@@ -107,12 +125,22 @@ fn block_answered(
         from = end + 1;
         end = line_end(block, from);
         held = 0;
-        let turn = answered(board, call, &request, &voltages, out, said.count);
+        length = lesser(store_length(call, length), store.len());
+        let turn = answered(
+            board,
+            call,
+            &request,
+            &voltages,
+            &mut store[0..length],
+            out,
+            said.count,
+        );
         board = turn.board;
         said = with_room(out, turn.said, ANSWER_ROOM);
     }
     Answered {
         board,
+        length,
         is_written: written(out, said),
     }
 }

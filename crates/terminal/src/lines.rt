@@ -38,6 +38,46 @@ pub(crate) fn put_saved(out: &mut [u8], at: usize, state: State, area: &[u8]) ->
     put_end(out, bytes)
 }
 
+// EDITION BYTE.. +Z
+pub(crate) fn put_kept(
+    out: &mut [u8],
+    at: usize,
+    state: State,
+    edition: u32,
+    store: &[u8],
+) -> usize {
+    let mut next = put_state(out, at, state);
+    next = put(out, next, SPACE);
+    next = put_decimal(out, next, edition as u64);
+    next = put_reply(out, next, store);
+    put_end(out, next)
+}
+
+// NUMBER BYTE.. +Z
+pub(crate) fn put_tidied(out: &mut [u8], at: usize, number: u8, store: &[u8]) -> usize {
+    let mut next = put_decimal(out, at, number as u64);
+    next = put_reply(out, next, store);
+    put_end(out, next)
+}
+
+// BYTE.. +Z
+pub(crate) fn put_store(out: &mut [u8], at: usize, store: &[u8]) -> usize {
+    let said = without_zeros(store);
+    let bytes = put_row(out, at, &store[0..said]);
+    let zeros = put_zeros(out, bytes, store.len() - said);
+    put_end(out, zeros)
+}
+
+// BYTE.. with a space behind each.
+fn put_row(out: &mut [u8], at: usize, bytes: &[u8]) -> usize {
+    if bytes.len() == 0 {
+        return at;
+    }
+    let first = put_byte(out, at, bytes[0]);
+    let rest = put_bytes(out, first, &bytes[1..]);
+    put(out, rest, SPACE)
+}
+
 // Every register of the slice, with a space before each.
 pub(crate) fn put_slice(out: &mut [u8], at: usize, state: State, slice: &[u16]) -> usize {
     let mut next = put_state(out, at, state);
@@ -118,8 +158,13 @@ fn put_reply(out: &mut [u8], at: usize, reply: &[u8]) -> usize {
     let said = without_zeros(reply);
     let bytes = put_bytes(out, at, &reply[0..said]);
     let space = put(out, bytes, SPACE);
-    let plus = put(out, space, b'+');
-    put_count(out, plus, reply.len() - said)
+    put_zeros(out, space, reply.len() - said)
+}
+
+// +Z
+fn put_zeros(out: &mut [u8], at: usize, count: usize) -> usize {
+    let plus = put(out, at, b'+');
+    put_count(out, plus, count)
 }
 
 fn put_count(out: &mut [u8], at: usize, count: usize) -> usize {

@@ -5,15 +5,19 @@ use crate::calls::MOST_ROOM;
 use crate::lines::State;
 use crate::lines::put_crc;
 use crate::lines::put_heard;
+use crate::lines::put_kept;
 use crate::lines::put_mark;
 use crate::lines::put_replied;
 use crate::lines::put_saved;
 use crate::lines::put_shown;
 use crate::lines::put_slice;
+use crate::lines::put_store;
+use crate::lines::put_tidied;
 use crate::lines::put_told;
 use board::Answer;
 use board::Board;
 use board::Heard;
+use board::Stored;
 use desk::RECORD;
 use numbers::lesser;
 use refusals::Outcome;
@@ -35,6 +39,7 @@ pub(crate) fn answered(
     call: Call,
     request: &[u8],
     voltages: &[u16],
+    store: &mut [u8],
     out: &mut [u8],
     said: usize,
 ) -> Turn {
@@ -65,6 +70,13 @@ pub(crate) fn answered(
         Call::Cabinet { length } => measured(board, length, out, said),
         Call::Handover => handed(board, out, said),
         Call::Record { number, length } => billed(board, number, length, out, said),
+        Call::Store { length: _, count } => {
+            let given = lesser(count, request.len());
+            after(board, stocked(&request[0..given], store, out, said))
+        }
+        Call::Keep => stored(board.keep(store), store, out, said),
+        Call::Recall { edition } => told(board.recall(store, edition), out, said),
+        Call::Tidy => after(board, tidied(store, out, said)),
         Call::Crc(crc) => after(board, put_crc(out, said, crc)),
         Call::Register(at) => shown(board, at, out, said),
     }
@@ -145,6 +157,34 @@ fn billed_into(board: Board, number: u32, bytes: &mut [u8], out: &mut [u8], said
     let outcome = answer.outcome;
     let state = state_of(answer.board, outcome);
     after(answer.board, put_saved(out, said, state, bytes))
+}
+
+fn stocked(bytes: &[u8], store: &mut [u8], out: &mut [u8], said: usize) -> usize {
+    stock(bytes, store);
+    put_store(out, said, store)
+}
+
+// The console's store becomes these bytes, and zeros up to its end.
+fn stock(bytes: &[u8], store: &mut [u8]) {
+    let mut i = 0;
+    while i < store.len() {
+        store[i] = numbers::byte_at(bytes, i);
+        i += 1;
+    }
+}
+
+fn stored(stored: Stored, store: &[u8], out: &mut [u8], said: usize) -> Turn {
+    let outcome = stored.outcome;
+    let state = state_of(stored.board, outcome);
+    after(
+        stored.board,
+        put_kept(out, said, state, stored.edition, store),
+    )
+}
+
+fn tidied(store: &mut [u8], out: &mut [u8], said: usize) -> usize {
+    let outcome = classes::tidy(store);
+    put_tidied(out, said, outcome.number(), store)
 }
 
 fn heard(heard: Heard, out: &mut [u8], said: usize) -> Turn {

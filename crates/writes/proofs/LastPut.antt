@@ -85,7 +85,7 @@ drafted-settings s ps held =
 
 -- ---- only the final values are judged
 
-drafted-standing : (d : Draft) (ps : List Pair) → draftedOf d ps .standing ≡ d .standing
+pub drafted-standing : (d : Draft) (ps : List Pair) → draftedOf d ps .standing ≡ d .standing
 unfolding draftedOf
 drafted-standing d [] = refl
 drafted-standing d (p ∷ ps) = put-standing (draftedOf d ps) (p .at) (p .value) ∙ drafted-standing d ps

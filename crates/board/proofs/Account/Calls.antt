@@ -14,6 +14,8 @@ use Rattle.refusals.specs.declared.Outcome.the-variants.{Done}
 use Rattle.refusals.specs.Refusals.{isDone, first}
 use Rattle.refusals.proofs.Rows.{refused-not, done-is, off}
 use Rattle.cells.specs.Cells.{extremesOf, decisionOf}
+use Rattle.classes.specs.Store.{pairsFor}
+use Rattle.classes.proofs.Laws as classes
 use Rattle.events.specs.declared.Event.{Event}
 use Rattle.events.specs.Events.{capacity, noEvent, noEvents, sentOf}
 use Rattle.events.specs.Area.{listOf, eventsIn}
@@ -29,7 +31,7 @@ use Rattle.settings.specs.Settings as settings
 use Rattle.settings.proofs.Drafts.{done-stands}
 use Rattle.statistics.specs.Statistics.{riddenOf, countedOf, clearedAt}
 use Rattle.writes.specs.declared.Pair.{Pair}
-use Rattle.writes.specs.Writes.{pairsOf, draftedOf}
+use Rattle.writes.specs.Writes.{pairsOf, draftedOf, writtenTo}
 use Rattle.requests.specs.declared.Request.{Request}
 use Rattle.requests.specs.declared.Request.the-variants as request
 use Rattle.requests.specs.Requests.{requestOf, marks}
@@ -43,8 +45,9 @@ use Rattle.board.specs.State.{withSettings, withEvents, withStatistics, 
 use Rattle.board.specs.Line.{heldIn, letGo}
 use Rattle.board.specs.Tick.{tickedOf}
 use Rattle.board.specs.Handover.{handedOver}
+use Rattle.board.specs.Changes as changes
 use Rattle.board.specs.Changes.{changedBy, askedDeeds}
-use Rattle.board.specs.Calls.{Call, tick, frame, handover, offer, fetch, save, load, cabinet}
+use Rattle.board.specs.Calls.{Call, tick, frame, handover, offer, fetch, save, load, cabinet, keep, recall}
 use Rattle.board.specs.Calls.{frameRows, shape, letsGo, boardBy, boardAfter}
 use Rattle.board.specs.Calls.{step}
 use Rattle.board.specs.Account.{Deed, took, wrote, cleared, forgot, sent, handed, heard, fetched, loaded, drops, sensedOf, settingsAt}
@@ -181,6 +184,12 @@ module _ (cells perKm : ℕ) where
     abbrev before : Board
     before = boardAt cells perKm h
 
+    -- a write that is accepted
+    written-goes : (ps : List Pair) → writtenTo (before .pack .settings) ps .outcome ≡ Done
+        → changes.written before ps ≡ boardAt cells perKm (wrote ps ∷ h)
+    unfolding boardAt
+    written-goes ps e = ap (withSettings before) (done-stands (draftedOf (settings.draftOf (settingsAt h)) ps) e) ∙ wrote-goes h ps
+
     -- a request that is accepted
     asked-goes : (s : List ℕ) (q : Request) → askedOutcome (before .pack) s q ≡ Done
         → changedBy before s q ≡ boardAt cells perKm (askedDeeds s q ++ h)
@@ -188,9 +197,7 @@ module _ (cells perKm : ℕ) where
     asked-goes s (request.Refused refusal) e = absurd (refused-not refusal e)
     asked-goes s request.ClearEvents e = forgot-goes h
     asked-goes s request.ClearStatistics e = cleared-goes h
-    asked-goes s (request.Write f n) e =
-        ap (withSettings before) (done-stands (draftedOf (settings.draftOf (settingsAt h)) (pairsOf f s n)) e)
-        ∙ wrote-goes h (pairsOf f s n)
+    asked-goes s (request.Write f n) e = written-goes (pairsOf f s n) e
     asked-goes s (request.Read q) e = go (marks q)
       where
         go : (t : Bool)
@@ -217,6 +224,8 @@ module _ (cells perKm : ℕ) where
     goes (save n) e = refl
     goes (load area) e = loaded-goes h (eventsIn area) (few-events area)
     goes (cabinet n) e = refl
+    goes (keep store) e = refl
+    goes (recall store edition) e = written-goes (pairsFor store edition) (classes.taken (settingsAt h) store edition e)
 
     called : (c : Call) → boardAfter before c ≡ boardAt cells perKm (calling cells perKm h c)
     unfolding boardBy calling

@@ -14,6 +14,7 @@ use Rattle.refusals.specs.declared.Outcome.{Outcome}
 use Rattle.refusals.specs.declared.Outcome.the-variants.{Done, Refused}
 use Rattle.refusals.specs.Refusals.{isDone, first}
 use Rattle.refusals.proofs.Rows.{refused-not, done-is, off}
+use Rattle.classes.proofs.Laws as classes
 use Rattle.events.specs.declared.Event.{Event}
 use Rattle.events.specs.Area.{neitherArea, recordsIn, usedOf, parted, neverRecorded, loadRows}
 use Rattle.readings.specs.declared.Readings.{Readings}
@@ -28,7 +29,7 @@ use Rattle.board.specs.declared.Board.{Board}
 use Rattle.board.specs.Changes.{askedDeeds}
 use Rattle.board.specs.Line.{heldIn, holds}
 use Rattle.board.specs.Promises.{requestOutcome}
-use Rattle.board.specs.Calls.{Call, tick, frame, handover, offer, fetch, save, load, cabinet}
+use Rattle.board.specs.Calls.{Call, tick, frame, handover, offer, fetch, save, load, cabinet, keep, recall}
 use Rattle.board.specs.Calls.{frameRows, shape, letsGo}
 use Rattle.board.specs.Account.{Deed, took, wrote, cleared, forgot, sent, handed, heard, fetched, loaded, row, settingsAt, boardAt}
 use Rattle.board.specs.Account.{outcomeAt, historyBy, calling, deedsOf}
@@ -94,6 +95,8 @@ module _ (cells perKm : ℕ) where
     done-may (fetch room) u e = (tt, rows-may (heldIn b) (off NoFrameHeld _ _ (off NoRoom _ _ e .1) .1))
     done-may (save n) u e = tt
     done-may (cabinet n) u e = tt
+    done-may (keep store) u e = tt
+    done-may (recall store edition) u e = (classes.taken (b .pack .settings) store edition e, tt)
     done-may (load area) u e =
         let e₁ = off WrongArea _ _ e .1 in
         let e₂ = off UsedAfterUnused _ _ e₁ .1 in

@@ -26,7 +26,7 @@ use Rattle.board.specs.declared.Board.{Board}
 use Rattle.board.specs.State.{usable, withReceiver}
 use Rattle.board.specs.Line.{heldIn, holds, letGo}
 use Rattle.board.specs.Start.{startBoard}
-use Rattle.board.specs.Calls.{Call, tick, frame, handover, offer, fetch, save, load, cabinet}
+use Rattle.board.specs.Calls.{Call, tick, frame, handover, offer, fetch, save, load, cabinet, keep, recall}
 use Rattle.board.specs.Calls.{Seen, Lent, nothingLent, replyLent, areaLent}
 use Rattle.board.specs.Calls.{frameRows, shape}
 use Rattle.board.specs.Calls.{outcomeOf, nacks, lost, letsGo, boardBy, seenOf, outcomeIn, boardAfter, step}
@@ -112,6 +112,8 @@ leaves b (fetch room) = go (not (usable b)) (ltb room 259) refl (not (holds b))
 leaves b (save n) = refl
 leaves b (load area) = refl
 leaves b (cabinet n) = refl
+leaves b (keep store) = refl
+leaves b (recall store edition) = refl
 
 -- a refused call takes nothing
 takes-none : (b : Board) (c : Call) → (outcomeIn b c ≡ Done → ⊥) → step b c .1 .carried ≡ 0

@@ -1,17 +1,18 @@
 -- The measure is the number of turns that are left; each buffer keeps its length. Assumes nothing.
 use mathlib.Core.Path.{_≡_}
 use native.Mathlib.Omega.{arith}
-use lib.ListN.{length}
+use lib.ListN as list
 use borrow.Author.Needs.{needs}
 use Rattle.terminal.proofs.answer_all.Statement.{statement}
 use Rattle.terminal.proofs.answer_all.Tie as tie
 
 abbrev Inv-loop : tie.InvT-loop
-Inv-loop name prompts block₀ line₀ out₀ board₀ is-written₀ held₀ turns₀ got₀ block line out board is-written held turns got =
-    (length block ≡ length block₀) × (length line ≡ length line₀) × (length out ≡ length out₀)
+Inv-loop name prompts block₀ line₀ out₀ board₀ store₀ length₀ is-written₀ held₀ turns₀ got₀ block line out board store length is-written held turns got =
+    (list.length block ≡ list.length block₀) × (list.length line ≡ list.length line₀) × (list.length out ≡ list.length out₀)
+    × (600 ≡ list.length store)
 
 abbrev μ-loop : tie.MeasureT-loop
-μ-loop name prompts block₀ line₀ out₀ board₀ is-written₀ held₀ turns₀ got₀ block line out board is-written held turns got = turns
+μ-loop name prompts block₀ line₀ out₀ board₀ store₀ length₀ is-written₀ held₀ turns₀ got₀ block line out board store length is-written held turns got = turns
 
 start-requires : tie.Need-start-requires Inv-loop μ-loop
 start-requires c κs = tt
@@ -24,6 +25,9 @@ loop-holds c = search needs
 
 lesser-requires : tie.Need-lesser-requires Inv-loop μ-loop
 lesser-requires c κs = tt
+
+slice-aggregate-block-answered : tie.Need-slice-aggregate-block-answered Inv-loop μ-loop
+slice-aggregate-block-answered c = search needs
 
 sub-block-answered : tie.Need-sub-block-answered Inv-loop μ-loop
 sub-block-answered c = search needs
@@ -53,17 +57,88 @@ block-read-requires-2 : tie.Need-block-read-requires-2 Inv-loop μ-loop
 block-read-requires-2 c κs = tt
 
 sub-turns : tie.Need-sub-turns Inv-loop μ-loop
-sub-turns c = search needs
+sub-turns c =
+    let at10 = c .before .before .before .before .before .before .before .before .before .before in
+    let at11 = at10 .before in
+    let at12 = at11 .before in
+    let at13 = at12 .before in
+    let at14 = at13 .before in
+    let at15 = at14 .before in
+    let at16 = at15 .before in
+    let at17 = at16 .before in
+    let at18 = at17 .before in
+    let at19 = at18 .before in
+    let at20 = at19 .before in
+    let at21 = at20 .before in
+    let at22 = at21 .before in
+    let at23 = at22 .before in
+    let at24 = at23 .before in
+    let at25 = at24 .before in
+    let at26 = at25 .before in
+    omega (arith, at10, at11, at12, at13, at14, at15, at16, at17, at18, at19, at20, at21, at22, at23, at24, at25, at26)
 
 loop-less : tie.Need-loop-less Inv-loop μ-loop
-loop-less c = search needs
+loop-less c =
+    let at10 = c .before .before .before .before .before .before .before .before .before .before in
+    let at11 = at10 .before in
+    let at12 = at11 .before in
+    let at13 = at12 .before in
+    let at14 = at13 .before in
+    let at15 = at14 .before in
+    let at16 = at15 .before in
+    let at17 = at16 .before in
+    let at18 = at17 .before in
+    let at19 = at18 .before in
+    let at20 = at19 .before in
+    let at21 = at20 .before in
+    let at22 = at21 .before in
+    let at23 = at22 .before in
+    let at24 = at23 .before in
+    let at25 = at24 .before in
+    let at26 = at25 .before in
+    let at27 = at26 .before in
+    let at28 = at27 .before in
+    omega (arith, at10, at11, at12, at13, at14, at15, at16, at17, at18, at19, at20, at21, at22, at23, at24, at25, at26, at27, at28)
 
 loop-again : tie.Need-loop-again Inv-loop μ-loop
 loop-again c =
-    let later = c .before .before .before .before .before .before .before .before .before .before .before .before in
-    let inv = later .before .before .before .before .before .before .before .before .before .before .before .before .loop .inv in
-    let done = c .before .before .before .before .before .before in
-    (omega (arith, inv), omega (arith, inv, done), omega (arith, inv, done))
+    let at1 = c .before in
+    let at2 = at1 .before in
+    let at3 = at2 .before in
+    let at4 = at3 .before in
+    let at5 = at4 .before in
+    let at6 = at5 .before in
+    let at7 = at6 .before in
+    let at8 = at7 .before in
+    let at9 = at8 .before in
+    let at10 = at9 .before in
+    let at11 = at10 .before in
+    let at12 = at11 .before in
+    let at13 = at12 .before in
+    let at14 = at13 .before in
+    let at15 = at14 .before in
+    let at16 = at15 .before in
+    let at17 = at16 .before in
+    let at18 = at17 .before in
+    let at19 = at18 .before in
+    let at20 = at19 .before in
+    let at21 = at20 .before in
+    let at22 = at21 .before in
+    let at23 = at22 .before in
+    let at24 = at23 .before in
+    let at25 = at24 .before in
+    let at26 = at25 .before in
+    let at27 = at26 .before in
+    let at28 = at27 .before in
+    let at29 = at28 .before in (
+      omega (arith, at1, at2, at3, at4, at5, at6, at7, at8, at9, at10, at11, at12, at13, at14, at15, at16, at17, at18, at19, at20, at21, at22, at23, at24, at25, at26, at27, at28, at29),
+      omega (arith, at1, at2, at3, at4, at5, at6, at7, at8, at9, at10, at11, at12, at13, at14, at15, at16, at17, at18, at19, at20, at21, at22, at23, at24, at25, at26, at27, at28, at29),
+      omega (arith, at1, at2, at3, at4, at5, at6, at7, at8, at9, at10, at11, at12, at13, at14, at15, at16, at17, at18, at19, at20, at21, at22, at23, at24, at25, at26, at27, at28, at29),
+      omega (arith, at1, at2, at3, at4, at5, at6, at7, at8, at9, at10, at11, at12, at13, at14, at15, at16, at17, at18, at19, at20, at21, at22, at23, at24, at25, at26, at27, at28, at29),
+    )
+
+slice-aggregate-end-answered : tie.Need-slice-aggregate-end-answered Inv-loop μ-loop
+slice-aggregate-end-answered c = search needs
 
 end-answered-requires : tie.Need-end-answered-requires Inv-loop μ-loop
 end-answered-requires c κs = tt
@@ -93,6 +168,7 @@ answer-all-spec =
     block-read-requires
     loop-holds
     lesser-requires
+    slice-aggregate-block-answered
     sub-block-answered
     part-block-answered-start
     part-block-answered-end
@@ -105,6 +181,7 @@ answer-all-spec =
     sub-turns
     loop-less
     loop-again
+    slice-aggregate-end-answered
     end-answered-requires
     tell-failure-requires
     same-length

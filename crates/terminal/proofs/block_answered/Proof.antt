@@ -2,17 +2,19 @@
 use mathlib.Core.Path.{_≡_}
 use Prim.Native.Nat.{_≤_, _-_}
 use native.Mathlib.Omega.{arith}
-use lib.ListN.{length}
+use lib.ListN as list
 use borrow.Author.Needs.{needs}
 use Rattle.terminal.proofs.block_answered.Statement.{statement}
 use Rattle.terminal.proofs.block_answered.Tie as tie
 
 abbrev Inv-loop : tie.InvT-loop
-Inv-loop board₀ block line₀ held₀ out₀ request₀ voltages₀ said₀ from₀ end₀ board line held out request voltages said from end =
-    (from ≤ end) × (length line ≡ length line₀) × (length out ≡ length out₀) × (300 ≡ length request) × (32 ≡ length voltages)
+Inv-loop board₀ store₀ length₀ block line₀ held₀ out₀ request₀ voltages₀ said₀ from₀ end₀ board store length line held out request voltages said from end =
+    (from ≤ end) × (list.length line ≡ list.length line₀) × (list.length out ≡ list.length out₀) × (600 ≡ list.length request) × (32 ≡ list.length voltages)
+    × (list.length store ≡ list.length store₀)
 
 abbrev μ-loop : tie.MeasureT-loop
-μ-loop board₀ block line₀ held₀ out₀ request₀ voltages₀ said₀ from₀ end₀ board line held out request voltages said from end = length block - end
+μ-loop board₀ store₀ length₀ block line₀ held₀ out₀ request₀ voltages₀ said₀ from₀ end₀ board store length line held out request voltages said from end =
+    list.length block - end
 
 line-end-requires : tie.Need-line-end-requires Inv-loop μ-loop
 line-end-requires c κs = search needs
@@ -44,11 +46,26 @@ add-from c = search needs
 line-end-requires-2 : tie.Need-line-end-requires-2 Inv-loop μ-loop
 line-end-requires-2 c κs = search needs
 
+store-length-requires : tie.Need-store-length-requires Inv-loop μ-loop
+store-length-requires c κs = search needs
+
+lesser-requires : tie.Need-lesser-requires Inv-loop μ-loop
+lesser-requires c κs = search needs
+
 slice-aggregate-answered : tie.Need-slice-aggregate-answered Inv-loop μ-loop
 slice-aggregate-answered c = search needs
 
 slice-aggregate-answered-2 : tie.Need-slice-aggregate-answered-2 Inv-loop μ-loop
 slice-aggregate-answered-2 c = search needs
+
+sub-answered : tie.Need-sub-answered Inv-loop μ-loop
+sub-answered c = search needs
+
+part-answered-start : tie.Need-part-answered-start Inv-loop μ-loop
+part-answered-start c = search needs
+
+part-answered-end : tie.Need-part-answered-end Inv-loop μ-loop
+part-answered-end c = search needs
 
 answered-requires : tie.Need-answered-requires Inv-loop μ-loop
 answered-requires c κs = search needs
@@ -57,12 +74,48 @@ with-room-requires : tie.Need-with-room-requires Inv-loop μ-loop
 with-room-requires c κs = search needs
 
 loop-less : tie.Need-loop-less Inv-loop μ-loop
-loop-less c = omega (arith, c .before .before .before .before .before .before .before .before .before)
+loop-less c =
+    let at9 = c .before .before .before .before .before .before .before .before .before in
+    let at10 = at9 .before in
+    let at11 = at10 .before in
+    let at12 = at11 .before in
+    let at13 = at12 .before in
+    let at14 = at13 .before in
+    let at15 = at14 .before in
+    let at16 = at15 .before in
+    let at17 = at16 .before in
+    let at18 = at17 .before in
+    omega (arith, at9, at10, at11, at12, at13, at14, at15, at16, at17, at18)
 
 loop-again : tie.Need-loop-again Inv-loop μ-loop
 loop-again c =
-    let next = c .before .before .before .before .before .before .before .before .before in
-    (omega (arith, next), omega (arith, next), omega (arith, next), omega (arith, next), omega (arith, next))
+    let at1 = c .before in
+    let at2 = at1 .before in
+    let at3 = at2 .before in
+    let at4 = at3 .before in
+    let at5 = at4 .before in
+    let at6 = at5 .before in
+    let at7 = at6 .before in
+    let at8 = at7 .before in
+    let at9 = at8 .before in
+    let at10 = at9 .before in
+    let at11 = at10 .before in
+    let at12 = at11 .before in
+    let at13 = at12 .before in
+    let at14 = at13 .before in
+    let at15 = at14 .before in
+    let at16 = at15 .before in
+    let at17 = at16 .before in
+    let at18 = at17 .before in
+    let at19 = at18 .before in
+    let at20 = at19 .before in (
+      omega (arith, at1, at2, at3, at4, at5, at6, at7, at8, at9, at10, at11, at12, at13, at14, at15, at16, at17, at18, at19, at20),
+      omega (arith, at1, at2, at3, at4, at5, at6, at7, at8, at9, at10, at11, at12, at13, at14, at15, at16, at17, at18, at19, at20),
+      omega (arith, at1, at2, at3, at4, at5, at6, at7, at8, at9, at10, at11, at12, at13, at14, at15, at16, at17, at18, at19, at20),
+      omega (arith, at1, at2, at3, at4, at5, at6, at7, at8, at9, at10, at11, at12, at13, at14, at15, at16, at17, at18, at19, at20),
+      omega (arith, at1, at2, at3, at4, at5, at6, at7, at8, at9, at10, at11, at12, at13, at14, at15, at16, at17, at18, at19, at20),
+      omega (arith, at1, at2, at3, at4, at5, at6, at7, at8, at9, at10, at11, at12, at13, at14, at15, at16, at17, at18, at19, at20),
+    )
 
 written-requires : tie.Need-written-requires Inv-loop μ-loop
 written-requires c κs = search needs
@@ -72,6 +125,9 @@ same-length c = search needs
 
 same-length-2 : tie.Need-same-length-2 Inv-loop μ-loop
 same-length-2 c = search needs
+
+same-length-3 : tie.Need-same-length-3 Inv-loop μ-loop
+same-length-3 c = search needs
 
 returns : tie.Need-returns Inv-loop μ-loop
 returns c = search needs
@@ -92,8 +148,13 @@ block-answered-spec =
     piece-call-requires
     add-from
     line-end-requires-2
+    store-length-requires
+    lesser-requires
     slice-aggregate-answered
     slice-aggregate-answered-2
+    sub-answered
+    part-answered-start
+    part-answered-end
     answered-requires
     with-room-requires
     loop-less
@@ -101,4 +162,5 @@ block-answered-spec =
     written-requires
     same-length
     same-length-2
+    same-length-3
     returns)

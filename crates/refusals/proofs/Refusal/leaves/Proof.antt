@@ -75,6 +75,21 @@ enum-told-23 c = search needs
 enum-told-24 : tie.Need-enum-told-24
 enum-told-24 c = search needs
 
+enum-told-25 : tie.Need-enum-told-25
+enum-told-25 c = search needs
+
+enum-told-26 : tie.Need-enum-told-26
+enum-told-26 c = search needs
+
+enum-told-27 : tie.Need-enum-told-27
+enum-told-27 c = search needs
+
+enum-told-28 : tie.Need-enum-told-28
+enum-told-28 c = search needs
+
+enum-told-29 : tie.Need-enum-told-29
+enum-told-29 c = search needs
+
 returns : tie.Need-returns
 returns c = rw (c .enum-told .given .1)
 
@@ -147,6 +162,21 @@ returns-23 c = rw (c .enum-told23 .given .1)
 returns-24 : tie.Need-returns-24
 returns-24 c = rw (c .enum-told24 .given .1)
 
+returns-25 : tie.Need-returns-25
+returns-25 c = rw (c .enum-told25 .given .1)
+
+returns-26 : tie.Need-returns-26
+returns-26 c = rw (c .enum-told26 .given .1)
+
+returns-27 : tie.Need-returns-27
+returns-27 c = rw (c .enum-told27 .given .1)
+
+returns-28 : tie.Need-returns-28
+returns-28 c = rw (c .enum-told28 .given .1)
+
+returns-29 : tie.Need-returns-29
+returns-29 c = rw (c .enum-told29 .given .1)
+
 pub leaves-spec : {M : Type 1} → statement M
 leaves-spec =
     tie.close
@@ -175,6 +205,11 @@ leaves-spec =
     enum-told-22
     enum-told-23
     enum-told-24
+    enum-told-25
+    enum-told-26
+    enum-told-27
+    enum-told-28
+    enum-told-29
     returns
     returns-2
     returns-3
@@ -198,4 +233,9 @@ leaves-spec =
     returns-21
     returns-22
     returns-23
-    returns-24)
+    returns-24
+    returns-25
+    returns-26
+    returns-27
+    returns-28
+    returns-29)

@@ -15,6 +15,7 @@ use Rattle.refusals.specs.declared.Refusal.the-variants.{NoRoom, Foreign
 use Rattle.refusals.specs.declared.Refusal.the-variants.{OutOfRange, OutOfOrder, FrameHeld, NoFrameHeld}
 use Rattle.refusals.specs.declared.Refusal.the-variants.{WrongCells, WrongCurrent, NoInternal, WrongPulses, NoBoard, WrongArea}
 use Rattle.refusals.specs.declared.Refusal.the-variants.{UsedAfterUnused, NeverRecorded, BadRecord, CutRecord, WrongSlice}
+use Rattle.refusals.specs.declared.Refusal.the-variants.{WrongStore, SpoiltStore, NoEdition, BrokenRules, EditionsUsedUp}
 use Rattle.refusals.specs.declared.Refusal.the-variants.{CutBill, PastTotal, WrongRecord}
 use Rattle.refusals.specs.Refusals.{refusalRegister}
 use Rattle.refusals.proofs.Refusal.{the-type}
@@ -41,6 +42,11 @@ none NoBoard e = refl
 none WrongArea e = refl
 none UsedAfterUnused e = refl
 none NeverRecorded e = refl
+none WrongStore e = refl
+none SpoiltStore e = refl
+none NoEdition e = refl
+none BrokenRules e = refl
+none EditionsUsedUp e = refl
 none BadRecord e = refl
 none CutRecord e = refl
 none WrongSlice e = refl
@@ -59,7 +65,7 @@ returns c = rw (c .before .self .given .1)
 
 returns-2 : tie.Need-returns-2
 returns-2 c =
-    let others-of = others (0 ∷ 1 ∷ 2 ∷ 3 ∷ 4 ∷ 5 ∷ 7 ∷ 8 ∷ 9 ∷ 10 ∷ 11 ∷ 12 ∷ 13 ∷ 14 ∷ 15 ∷ 16 ∷ 17 ∷ 18 ∷ 19 ∷ 20 ∷ 21 ∷ 22 ∷ 23 ∷ []) 6 in
+    let others-of = others (0 ∷ 1 ∷ 2 ∷ 3 ∷ 4 ∷ 5 ∷ 7 ∷ 8 ∷ 9 ∷ 10 ∷ 11 ∷ 12 ∷ 13 ∷ 14 ∷ 15 ∷ 16 ∷ 17 ∷ 18 ∷ 19 ∷ 20 ∷ 21 ∷ 22 ∷ 23 ∷ 24 ∷ 25 ∷ 26 ∷ 27 ∷ 28 ∷ []) 6 in
     rw (none (c .before .args .self) (others-of _ (c .match .keys2) tt))
 
 pub register-spec : {M : Type 1} → statement M

@@ -1,0 +1,3 @@
+pub mod Store
+pub mod Steps
+pub mod Laws

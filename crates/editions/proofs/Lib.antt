@@ -1,0 +1,5 @@
+pub mod Walks
+pub mod Order
+pub mod Tidied
+pub mod Replaced
+mod Facts
