@@ -1,0 +1,2 @@
+pub mod OneTick
+mod Facts
