@@ -1,2 +1,4 @@
 pub mod OneTick
+pub mod Excluded
+pub mod Latched
 mod Facts
