@@ -61,7 +61,7 @@ module _ (m : Moment) (before : List Moment) (events : List Recorded) where
   recovery ROC = waitOver ROC (m ∷ before)
   recovery LT = externalsMild (m .settings) (m .readings)
 
-  -- "each latching when it holds and recovering when latched and its recovery holds": never both, proofs/Never
+  -- "each latching when it holds and recovering when latched and its recovery holds": never both (proofs/OneTick)
   abbrev pub latchesNow : Condition → Bool
   latchesNow c = held c m && not (unrecovered c events)
 
