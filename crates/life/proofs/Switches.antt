@@ -4,10 +4,12 @@
 -- Assumes nothing.
 use mathlib.Core.Path.{_≡_, refl, sym, ap, ap₂, _∙_}
 use mathlib.Core.Bool.{Bool, true, false, _&&_, _||_, not, cond, or-comm}
-use mathlib.Core.List.{List, [], _∷_, _++_, map, reverse, reverseAux}
-use Prim.Native.Nat.{ℕ, _≤_}
+use mathlib.Core.List.{List, [], _∷_, _++_, map, reverse, reverseAux, append-assoc}
+use Prim.Native.Nat.{ℕ, _+_, _≤_}
+use native.Mathlib.Omega.{arith}
 use lib.Dec.{eqb}
-use Rattle.laws.specs.History.{some, any, since, each, headOr}
+use lib.ListN.{length, length-append}
+use Rattle.laws.specs.History.{never, some, any, since, each, headOr}
 use Rattle.laws.proofs.Latch.{wrong}
 use Rattle.refusals.specs.declared.Outcome.{Outcome}
 use Rattle.refusals.specs.declared.Outcome.the-variants.{Done}
@@ -20,7 +22,7 @@ use Rattle.settings.specs.declared.Settings.{Settings}
 use Rattle.board.specs.declared.Board.{Board}
 use Rattle.board.specs.Calls.{Call, Seen, tick, handover, shape, letsGo, step}
 use Rattle.board.specs.Behaviour.{Behaviour, board}
-use Rattle.board.specs.Account.{Deed, took, handed, fetched, row, hands, momentOf, momentsAt, settingsAt, latchedAt, chargeAt, dischargeAt}
+use Rattle.board.specs.Account.{Deed, took, handed, fetched, row, hands, ticking, countAt, momentOf, momentsAt, settingsAt, latchedAt, chargeAt, dischargeAt}
 use Rattle.board.specs.Account.{boardAt, outcomeAt, historyBy, calling, deedsOf}
 use Rattle.board.specs.Account.LastTick.{chargeNow, dischargeNow}
 use Rattle.board.specs.Demands.{deeds, shown, told, toldAll, Demand2}
@@ -48,7 +50,7 @@ module _ (cells perKm : ℕ) where
   held-on d h m (fits, w) =
       (kept cells perKm d h m fits, still-waiting (settingsAt h) (wait-some (settingsAt h) fits) (row d .ticks) (momentsAt h) w)
 
-  waiting : (cs : List Call) → Waiting (momentsAt (deeds cells perKm cs))
+  pub waiting : (cs : List Call) → Waiting (momentsAt (deeds cells perKm cs))
   unfolding deedsOf
   waiting cs = after-calls cells perKm Held held-on (ranges cells perKm [], tt) (reverse cs) .1
 
@@ -90,6 +92,34 @@ unturned-all (d ∷ ds) h e = go (turns d) refl e (unturned-all ds h)
     go true f e others = wrong (sym e)
     go false f e others = unturned d (ds ++ h) f ∙ others e
 
+-- where both are off they stay so, while no tick is taken
+
+count-next : (d : Deed) (h : List Deed) → countAt (d ∷ h) ≡ length (row d .ticks) + countAt h
+count-next d h = length-append (row d .ticks) (each ticking (since never h))
+
+counted : (ds h : List Deed) → countAt h ≤ countAt (ds ++ h)
+counted [] h = omega arith
+counted (d ∷ ds) h = omega (arith, counted ds h, count-next d (ds ++ h))
+
+off-untaken : (d : Deed) (h : List Deed) → length (row d .ticks) ≡ 0 → switchesAt h ≡ (false, false) → switchesAt (d ∷ h) ≡ (false, false)
+unfolding chargeAt dischargeAt
+off-untaken d h e off = go (row d .ticks) refl e (hands d) refl
+  where
+    go : (ts : List (List ℕ × Readings)) → row d .ticks ≡ ts → length ts ≡ 0 → (b : Bool) → hands d ≡ b → switchesAt (d ∷ h) ≡ (false, false)
+    go ts f e true g = ap (λ (t : Bool). (
+      headOr false (each chargeNow (cond t [] ((d ∷ h) ∷ since hands h))),
+      headOr false (each dischargeNow (cond t [] ((d ∷ h) ∷ since hands h))),
+    )) g
+    go [] f e false g = unturned d h (ap₂ (λ (ts : List (List ℕ × Readings)) (b : Bool). some ts || b) f g) ∙ off
+    go (t ∷ ts) f e false g = absurd (omega arith)
+
+off-on : (ds h : List Deed) → countAt (ds ++ h) ≡ countAt h → switchesAt h ≡ (false, false) → switchesAt (ds ++ h) ≡ (false, false)
+off-on [] h e off = off
+off-on (d ∷ ds) h e off =
+    let n = count-next d (ds ++ h) in
+    let l = counted ds h in
+    off-untaken d (ds ++ h) (omega arith) (off-on ds h (omega arith) off)
+
 module _ (cells perKm : ℕ) (h : List Deed) (c : Call) where
   -- where a call is done its deeds are added
   added : outcomeAt cells perKm h c ≡ Done → calling cells perKm h c ≡ shape c .deeds (boardAt cells perKm h) ++ h
@@ -106,6 +136,17 @@ module _ (cells perKm : ℕ) (h : List Deed) (c : Call) where
       go false true e = unturned fetched h refl
       go false false e = refl
 
+  -- in any case some are
+  more : (ds : List Deed) × (calling cells perKm h c ≡ ds ++ h)
+  unfolding calling
+  more = go (isDone (outcomeAt cells perKm h c)) (letsGo (shape c) (outcomeAt cells perKm h c))
+    where
+      go : (done lets-go : Bool)
+          → (ds : List Deed) × (cond done (shape c .deeds (boardAt cells perKm h) ++ h) (cond lets-go (fetched ∷ h) h) ≡ ds ++ h)
+      go true lets-go = (shape c .deeds (boardAt cells perKm h), refl)
+      go false true = (fetched ∷ [], refl)
+      go false false = ([], refl)
+
 -- ---- what is shown is what the history says
 
 module _ (cells perKm : ℕ) where
@@ -121,6 +162,36 @@ module _ (cells perKm : ℕ) where
   unfolding toldAll told boardAt
   last-told h [] = refl
   last-told h (c ∷ cs) = last-told (c ∷ h) cs
+
+  -- calls add to the history
+  adds : (h cs : List Call) → (ds : List Deed) × (deedsOf cells perKm (reverseAux cs h) ≡ ds ++ deedsOf cells perKm h)
+  unfolding deedsOf
+  adds h [] = ([], refl)
+  adds h (c ∷ cs) =
+      let (ds, e) = adds (c ∷ h) cs in
+      let (one, f) = more cells perKm (deedsOf cells perKm h) c in
+      (ds ++ one, e ∙ ap (λ (l : List Deed). ds ++ l) f ∙ sym (append-assoc ds one (deedsOf cells perKm h)))
+
+  in-turn : (xs ys h : List Call) → reverseAux (xs ++ ys) h ≡ reverseAux ys (reverseAux xs h)
+  in-turn [] ys h = refl
+  in-turn (x ∷ xs) ys h = in-turn xs ys (x ∷ h)
+
+  module _ (cs since : List Call) (number n : ℕ)
+      (done : outcomeAt cells perKm (deeds cells perKm cs) (handover number n) ≡ Done)
+      (untaken : countAt (deeds cells perKm (cs ++ (handover number n ∷ since))) ≡ countAt (deeds cells perKm cs)) where
+    abbrev with-it : List Call
+    with-it = handover number n ∷ reverse cs
+
+    handed-first : deedsOf cells perKm with-it ≡ handed ∷ deeds cells perKm cs
+    unfolding deedsOf shape
+    handed-first = added cells perKm (deeds cells perKm cs) (handover number n) done
+
+    off-since : switchesAt (deeds cells perKm (cs ++ (handover number n ∷ since))) ≡ (false, false)
+    off-since =
+        let (ds, e) = adds with-it since in
+        let all = ap (deedsOf cells perKm) (in-turn cs (handover number n ∷ since) []) ∙ e ∙ ap (λ (l : List Deed). ds ++ l) handed-first in
+        ap switchesAt all
+        ∙ off-on ds (handed ∷ deeds cells perKm cs) (ap countAt (sym all) ∙ untaken) (off-handed (deeds cells perKm cs))
 
 module _ (B : Behaviour) (meets : Demand2 B) (cells perKm : ℕ) (cs : List Call) where
   abbrev h : List Deed
@@ -170,6 +241,8 @@ switch-fact B meets =
       handed = λ cells perKm cs number n ok.
           shown-so B meets cells perKm cs (handover number n)
           ∙ ap switchesAt (added cells perKm (deeds cells perKm cs) (handover number n) ok) ∙ off-handed (deeds cells perKm cs);
+      until-a-tick = λ cells perKm cs since number n ok untaken.
+          last-so B meets cells perKm (cs ++ (handover number n ∷ since)) ∙ off-since cells perKm cs since number n ok untaken;
       nothing-else = λ cells perKm cs c e.
           shown-so B meets cells perKm cs c ∙ unchanged cells perKm (deeds cells perKm cs) c e ∙ sym (last-so B meets cells perKm cs);
     }

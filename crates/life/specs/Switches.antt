@@ -3,7 +3,7 @@
 -- Assumes nothing.
 use mathlib.Core.Path.{_≡_}
 use mathlib.Core.Bool.{Bool, true, false, _&&_, _||_}
-use mathlib.Core.List.{List, [], _∷_, map}
+use mathlib.Core.List.{List, [], _∷_, _++_, map}
 use Prim.Native.Nat.{ℕ}
 use lib.Dec.{eqb}
 use Rattle.laws.specs.History.{some, any}
@@ -14,7 +14,7 @@ use Rattle.guard.specs.Table.{namesCharge, namesDischarge}
 use Rattle.readings.specs.declared.Readings.{Readings}
 use Rattle.board.specs.Calls.{Call, tick, handover, Seen, shape}
 use Rattle.board.specs.Behaviour.{Behaviour, answersIn}
-use Rattle.board.specs.Account.{Deed, took, row, hands, momentsAt, settingsAt, boardAt, outcomeAt}
+use Rattle.board.specs.Account.{Deed, took, row, hands, countAt, momentsAt, settingsAt, boardAt, outcomeAt}
 use Rattle.board.specs.Demands.{deeds, shown}
 use Rattle.life.specs.Recorded.{unrecovered, recordedEver}
 
@@ -43,7 +43,8 @@ lastOf z (x ∷ xs) = lastOf x xs
 abbrev pub shownLast : (B : Behaviour) → ℕ → ℕ → List Call → Bool × Bool
 shownLast B cells perKm cs = lastOf (false, false) (map switches (answersIn B (B .start cells perKm) cs))
 
--- a call that does a tick or a handover: by what it adds to the history where it is done. (Clears, frames, loads add neither: proofs/Calls)
+-- a call that does a tick or a handover: by what it adds to the history where it is done. (A frame, and so a clear, and a load do
+-- neither: proofs/Others)
 abbrev pub turns : Deed → Bool
 turns d = some (row d .ticks) || hands d
 
@@ -58,10 +59,15 @@ pub record SwitchFact (B : Behaviour) : Type 0 where
   pub charge-on : AtEachTick B (λ h r a. NoneSuch namesCharge h → a .charge ≡ r .charger)
   -- "and ignition present or 334 at 0 turns discharge on", and these alone
   pub discharge-on : AtEachTick B (λ h r a. NoneSuch namesDischarge h → a .discharge ≡ (r .ignition || eqb (settingsAt h .r334) 0))
-  -- "Handover turns both off until the next accepted tick"
+  -- "Handover turns both off until the next accepted tick": at it,
   pub handed : (cells perKm : ℕ) (cs : List Call) (number n : ℕ)
       → outcomeAt cells perKm (deeds cells perKm cs) (handover number n) ≡ Done
       → switches (shown B cells perKm cs (handover number n)) ≡ (false, false)
+  -- and so after any calls since, while no tick of theirs is accepted: as many ticks are taken as before it
+  pub until-a-tick : (cells perKm : ℕ) (cs since : List Call) (number n : ℕ)
+      → outcomeAt cells perKm (deeds cells perKm cs) (handover number n) ≡ Done
+      → countAt (deeds cells perKm (cs ++ (handover number n ∷ since))) ≡ countAt (deeds cells perKm cs)
+      → shownLast B cells perKm (cs ++ (handover number n ∷ since)) ≡ (false, false)
   -- "clears, frames, loads and recalls change no switch", nor does any call but an accepted tick or a handover that is done
   pub nothing-else : (cells perKm : ℕ) (cs : List Call) (c : Call)
       → turnsAt cells perKm (deeds cells perKm cs) c ≡ false
