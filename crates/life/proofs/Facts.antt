@@ -1,7 +1,7 @@
 -- Lives of a pack, computed: every event ever, with the number of its tick, in the table's order within a tick.
 -- Assumes nothing.
 use mathlib.Core.Path.{_≡_, refl}
-use mathlib.Core.Bool.{Bool, true, false}
+use mathlib.Core.Bool.{true, false}
 use mathlib.Core.List.{List, [], _∷_, _++_, map, reverse}
 use Prim.Native.Nat.{ℕ}
 use lib.IntN.{ℤ, pos, negsuc}
@@ -11,7 +11,7 @@ use Rattle.guard.specs.declared.Condition.the-variants.{OV, OT, DOC}
 use Rattle.guard.specs.Guard.{holdsOf}
 use Rattle.guard.specs.Table.{is, latchEvent, recoveryEvent}
 use Rattle.guard.specs.Account.{Moment}
-use Rattle.life.specs.Recorded.{Recorded, unrecovered, recovery, recordedEver}
+use Rattle.life.specs.Recorded.{unrecovered, recovery, recordedEver}
 
 -- with those cells, that current and that external 2, all else at 20 °C
 at : List ℕ → ℤ → ℤ → Moment

@@ -22,10 +22,10 @@ use Rattle.guard.specs.Guard.{cellsHighEnough, cellsLowEnough, externalsMild, w
 use Rattle.guard.specs.Table.{is, latchEvent}
 use Rattle.guard.specs.Account.{Moment, waitOf, connectedAtAny, coolAgain, sinceHot, latchedFrom}
 use Rattle.guard.proofs.Account.{hot-next}
-use Rattle.life.specs.Recorded.{Recorded, latching, unrecovered, held, waitOver, ticksFrom, recovery, latchesNow, recoversNow, event}
+use Rattle.life.specs.Recorded.{Recorded, latching, unrecovered, held, ticksFrom, recovery, latchesNow, event}
 use Rattle.life.specs.Recorded.{recordedEver}
 use Rattle.life.proofs.OneTick.{unrecovered-now, newest-now}
-use Rattle.life.proofs.Excluded.{excluded}
+use Rattle.life.proofs.Recovers.{excluded}
 
 -- ---- a wait, one tick later
 
@@ -197,7 +197,8 @@ hot-so (m ∷ ms) w =
     let (same, since) = hot-so ms (w .1) in
     let h = held OT m in (
       unrecovered-next m ms (w .0) OT ∙ ap (λ (o : Bool). h || o && not (recovery m ms (recordedEver ms) OT)) same
-          ∙ while h (some (sinceHot ms)) (recovery m ms (recordedEver ms) OT) (coolAgain (m ∷ sinceHot ms)) (λ e. recovers-by m ms (since e))
+          ∙ while h (some (sinceHot ms)) (recovery m ms (recordedEver ms) OT) (coolAgain (m ∷ sinceHot ms))
+          (λ e. recovers-by m ms (since e))
           ∙ sym (some-later m ms),
       λ e. since-later m ms same since (sym (some-later m ms) ∙ e),
     )

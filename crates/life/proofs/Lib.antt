@@ -1,8 +1,8 @@
+pub mod Facts
 pub mod OneTick
-pub mod Excluded
+pub mod Recovers
 pub mod Latched
 pub mod Switches
 pub mod Others
-pub mod AsRecorded
+pub mod TickRecords
 pub mod WrongBoards
-mod Facts

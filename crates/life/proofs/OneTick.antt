@@ -4,7 +4,6 @@
 use mathlib.Core.Path.{_≡_, refl, sym, ap, _∙_}
 use mathlib.Core.Bool.{Bool, true, false, _&&_, _||_, not, cond, and-true, and-false, and-eq-true-iff}
 use mathlib.Core.List.{List, [], _∷_, _++_, append-assoc}
-use Prim.Native.Nat.{ℕ}
 use lib.Dec.{eqb}
 use Rattle.laws.specs.History.{newest, each}
 use Rattle.laws.proofs.Latch.{wrong}
@@ -13,7 +12,8 @@ use Rattle.guard.specs.declared.Condition.{Condition}
 use Rattle.guard.specs.declared.Condition.the-variants.{UV, OV, OT, DOC, COC, ROC, LT}
 use Rattle.guard.specs.Table.{latchEvent, recoveryEvent}
 use Rattle.guard.specs.Account.{Moment}
-use Rattle.life.specs.Recorded.{Recorded, latching, recovering, unrecovered, held, recovery, latchesNow, recoversNow, event, eventsOf, lastFirst}
+use Rattle.life.specs.Recorded.{Recorded, latching, recovering, unrecovered, held, recovery, latchesNow, recoversNow, event}
+use Rattle.life.specs.Recorded.{eventsOf, lastFirst}
 
 -- ---- event numbers: both of d's are none of c's
 

@@ -22,7 +22,8 @@ use Rattle.settings.specs.declared.Settings.{Settings}
 use Rattle.board.specs.declared.Board.{Board}
 use Rattle.board.specs.Calls.{Call, Seen, tick, handover, shape, letsGo, step}
 use Rattle.board.specs.Behaviour.{Behaviour, board}
-use Rattle.board.specs.Account.{Deed, took, handed, fetched, row, hands, ticking, countAt, momentOf, momentsAt, settingsAt, latchedAt, chargeAt, dischargeAt}
+use Rattle.board.specs.Account.{Deed, took, handed, fetched, row, hands, ticking, countAt, momentOf, momentsAt, settingsAt}
+use Rattle.board.specs.Account.{latchedAt, chargeAt, dischargeAt}
 use Rattle.board.specs.Account.{boardAt, outcomeAt, historyBy, calling, deedsOf}
 use Rattle.board.specs.Account.LastTick.{chargeNow, dischargeNow}
 use Rattle.board.specs.Demands.{deeds, shown, told, toldAll, Demand2}
@@ -59,15 +60,16 @@ module _ (cells perKm : ℕ) where
 abbrev switchesAt : List Deed → Bool × Bool
 switchesAt h = (chargeAt h, dischargeAt h)
 
+-- by the moments since the handover
+abbrev switchesBy : List (List Deed) → Bool × Bool
+switchesBy moments = (headOr false (each chargeNow moments), headOr false (each dischargeNow moments))
+
 -- a deed that is neither a tick nor a handover changes none
 unturned : (d : Deed) (h : List Deed) → turns d ≡ false → switchesAt (d ∷ h) ≡ switchesAt h
 unfolding chargeAt dischargeAt
 unturned d h e =
     let (no-tick, no-hand) = neither (row d .ticks) (hands d) e in
-    ap (λ (t : Bool). (
-      headOr false (each chargeNow (cond t [] ((d ∷ h) ∷ since hands h))),
-      headOr false (each dischargeNow (cond t [] ((d ∷ h) ∷ since hands h))),
-    )) no-hand
+    ap (λ (t : Bool). switchesBy (cond t [] ((d ∷ h) ∷ since hands h))) no-hand
     ∙ ap (λ (ts : List (List ℕ × Readings)). (
       headOr false (map (λ t. t .1 .charger && not (chargeOff (latchedAt (d ∷ h)))) ts ++ each chargeNow (since hands h)),
       headOr false (map (λ t. not (dischargeOff (latchedAt (d ∷ h))) && (eqb (settingsAt h .r334) 0 || t .1 .ignition)) ts
@@ -93,7 +95,6 @@ unturned-all (d ∷ ds) h e = go (turns d) refl e (unturned-all ds h)
     go false f e others = unturned d (ds ++ h) f ∙ others e
 
 -- where both are off they stay so, while no tick is taken
-
 count-next : (d : Deed) (h : List Deed) → countAt (d ∷ h) ≡ length (row d .ticks) + countAt h
 count-next d h = length-append (row d .ticks) (each ticking (since never h))
 
@@ -105,11 +106,9 @@ off-untaken : (d : Deed) (h : List Deed) → length (row d .ticks) ≡ 0 → swi
 unfolding chargeAt dischargeAt
 off-untaken d h e off = go (row d .ticks) refl e (hands d) refl
   where
-    go : (ts : List (List ℕ × Readings)) → row d .ticks ≡ ts → length ts ≡ 0 → (b : Bool) → hands d ≡ b → switchesAt (d ∷ h) ≡ (false, false)
-    go ts f e true g = ap (λ (t : Bool). (
-      headOr false (each chargeNow (cond t [] ((d ∷ h) ∷ since hands h))),
-      headOr false (each dischargeNow (cond t [] ((d ∷ h) ∷ since hands h))),
-    )) g
+    go : (ts : List (List ℕ × Readings)) → row d .ticks ≡ ts → length ts ≡ 0 → (b : Bool) → hands d ≡ b
+        → switchesAt (d ∷ h) ≡ (false, false)
+    go ts f e true g = ap (λ (t : Bool). switchesBy (cond t [] ((d ∷ h) ∷ since hands h))) g
     go [] f e false g = unturned d h (ap₂ (λ (ts : List (List ℕ × Readings)) (b : Bool). some ts || b) f g) ∙ off
     go (t ∷ ts) f e false g = absurd (omega arith)
 

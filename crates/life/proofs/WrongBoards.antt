@@ -1,5 +1,5 @@
--- The switch fact shuts out wrong boards: one that forgets its latches at a handover, one that turns a switch on at a load, one whose clear of
--- events ends a latch, one that keeps a switch off although its condition recovered, and one that recovers OT by what is connected now,
+-- The switch fact shuts out wrong boards: one that forgets its latches at a handover, one that turns a switch on at a load, one whose clear
+-- of events ends a latch, one that keeps a switch off although its condition recovered, and one that recovers OT by what is connected now,
 -- without W-204's memory.
 -- Assumes nothing.
 use mathlib.Core.Path.{_≡_, refl, sym, ap}
@@ -11,7 +11,6 @@ use lib.ListN.{replicate}
 use Rattle.laws.specs.History.{any}
 use Rattle.events.specs.Area.{areaOf}
 use Rattle.events.specs.Events.{noEvents}
-use Rattle.guard.specs.declared.Condition.{Condition}
 use Rattle.guard.specs.declared.Condition.the-variants.{UV, OV, OT, DOC, COC, ROC, LT}
 use Rattle.guard.specs.declared.Guard.{Guard}
 use Rattle.guard.specs.Guard.{noGuard, noneRemembered}
@@ -24,7 +23,7 @@ use Rattle.board.specs.State.{withPack, withHire}
 use Rattle.board.specs.Start.{startBoard}
 use Rattle.board.specs.Calls.{Call, Seen, tick, frame, handover, load, shape, step, seen}
 use Rattle.board.specs.Behaviour.{Behaviour, board}
-use Rattle.board.specs.Deeds.{Deed, took, row, hands, forgets}
+use Rattle.board.specs.Deeds.{Deed, took, hands, forgets}
 use Rattle.board.specs.Demands.{deeds}
 use Rattle.board.proofs.Opened.{accounted}
 use Rattle.life.specs.Recorded.{recovery, recordedEver}
@@ -32,7 +31,7 @@ use Rattle.life.specs.Switches.{NoneSuch, SwitchFact}
 
 -- ---- the calls that they are put to
 
--- four cells, the first of them so; no charger, no ignition (334 is 0 from the start)
+-- at 20 °C but for external 2; no charger, no ignition (334 is 0 from the start)
 abbrev reading : ℤ → ℤ → Readings
 reading current external2 =
     record {

@@ -2,7 +2,7 @@
 -- newest first, and document 01's table, with no latch, no timer and no memory. No clear, load or handover takes an event away, and no
 -- full list drops one.
 -- Assumes nothing.
-use mathlib.Core.Bool.{Bool, true, false, _&&_, not, cond}
+use mathlib.Core.Bool.{Bool, _&&_, not, cond}
 use mathlib.Core.List.{List, [], _∷_, _++_}
 use Prim.Native.Nat.{ℕ, suc, _-_}
 use lib.Dec.{eqb, leb}

@@ -1,5 +1,5 @@
--- W-212, the switch fact over the whole life of a board: of any behaviour, from any start, after any calls. Document 01's paper decides which
--- ticks and handovers are accepted, so no behaviour escapes by refusing them.
+-- W-212, the switch fact over the whole life of a board: of any behaviour, from any start, after any calls. The paper decides which ticks
+-- and handovers are accepted, so no behaviour escapes by refusing them.
 -- Assumes nothing.
 use mathlib.Core.Path.{_≡_}
 use mathlib.Core.Bool.{Bool, true, false, _&&_, _||_}
@@ -26,8 +26,8 @@ AtEachTick B Holds =
     → Holds (took given r ∷ deeds cells perKm cs) r (shown B cells perKm cs (tick given r))
 
 -- "a condition naming it has a latch event later than its last recovery event, both counted over all ticks ever"; "with none such"
-abbrev pub Off : (Condition → Bool) → List Deed → Type 0
-Off names h = (c : Condition) × (names c ≡ true) × (unrecovered c (recordedEver (momentsAt h)) ≡ true)
+abbrev pub SomeSuch : (Condition → Bool) → List Deed → Type 0
+SomeSuch names h = (c : Condition) × (names c ≡ true) × (unrecovered c (recordedEver (momentsAt h)) ≡ true)
 
 abbrev pub NoneSuch : (Condition → Bool) → List Deed → Type 0
 NoneSuch names h = (c : Condition) → names c ≡ true → unrecovered c (recordedEver (momentsAt h)) ≡ false
@@ -53,8 +53,8 @@ turnsAt cells perKm h c = isDone (outcomeAt cells perKm h c) && any turns (shape
 
 pub record SwitchFact (B : Behaviour) : Type 0 where
   -- "a switch is off if a condition naming it has a latch event later than its last recovery event"
-  pub charge-off : AtEachTick B (λ h r a. Off namesCharge h → a .charge ≡ false)
-  pub discharge-off : AtEachTick B (λ h r a. Off namesDischarge h → a .discharge ≡ false)
+  pub charge-off : AtEachTick B (λ h r a. SomeSuch namesCharge h → a .charge ≡ false)
+  pub discharge-off : AtEachTick B (λ h r a. SomeSuch namesDischarge h → a .discharge ≡ false)
   -- "Conversely, with none such, the charger present turns charge on", and it alone
   pub charge-on : AtEachTick B (λ h r a. NoneSuch namesCharge h → a .charge ≡ r .charger)
   -- "and ignition present or 334 at 0 turns discharge on", and these alone

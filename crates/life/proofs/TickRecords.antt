@@ -4,7 +4,7 @@
 use mathlib.Core.Path.{_≡_, refl, sym, ap, ap₂, _∙_}
 use mathlib.Core.Bool.{Bool, true, false, _&&_, _||_, not, cond}
 use mathlib.Core.List.{List, [], _∷_, _++_, map, reverse, append-assoc}
-use Prim.Native.Nat.{ℕ, _≤_}
+use Prim.Native.Nat.{ℕ}
 use lib.Dec.{eqb}
 use Rattle.laws.specs.History.{each}
 use Rattle.laws.proofs.Latch.{wrong}
@@ -16,11 +16,11 @@ use Rattle.readings.specs.declared.Readings.{Readings}
 use Rattle.hire.specs.Tick.{chargerEvent}
 use Rattle.hire.specs.Tick as hire
 use Rattle.board.specs.Calls.{Call}
-use Rattle.board.specs.Account.{took, momentOf, momentsAt, settingsAt, latchedAt, chargerAt, someEvent, newestFirst, numbersOf}
+use Rattle.board.specs.Account.{took, momentOf, momentsAt, settingsAt, latchedAt, someEvent, numbersOf}
 use Rattle.board.specs.Demands.{deeds}
 use Rattle.board.proofs.Account.Settings.{ranges, wait-some}
 use Rattle.life.specs.Recorded.{Recorded, unrecovered, held, recovery, event, eventsOf, lastFirst, recordedEver}
-use Rattle.life.proofs.Excluded.{excluded}
+use Rattle.life.proofs.Recovers.{excluded}
 use Rattle.life.proofs.Latched.{Waiting, unrecovered-next, latched-by-events}
 use Rattle.life.proofs.Switches.{waiting}
 
@@ -61,7 +61,8 @@ module _ (m : Moment) (ms : List Moment) (w : Waiting (m ∷ ms)) where
       let v = recovery m ms before c in
       let was = latched-by-events ms (w .1) c in
       let now = sym (unrecovered-next m ms (w .0) c) ∙ latched-by-events (m ∷ ms) w c in
-      mapped (h && not o) (o && v) (event m ms before (latchEvent c)) (event m ms before (recoveryEvent c)) ∙ by-tests c h o v (excluded m ms before (w .0) c)
+      mapped (h && not o) (o && v) (event m ms before (latchEvent c)) (event m ms before (recoveryEvent c))
+      ∙ by-tests c h o v (excluded m ms before (w .0) c)
       ∙ ap₂ (λ (after was : Bool). someEvent (cond (after && not was) (latchEvent c) (cond (was && not after) (recoveryEvent c) 0))) now was
     where
       mapped : (a b : Bool) (l r : Recorded)
