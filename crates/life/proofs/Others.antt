@@ -13,7 +13,7 @@ use Rattle.requests.specs.Requests.{requestOf, marks}
 use Rattle.board.specs.declared.Board.{Board}
 use Rattle.board.specs.Line.{heldIn}
 use Rattle.board.specs.Changes.{askedDeeds}
-use Rattle.board.specs.Calls.{Call, frame, offer, fetch, save, load, cabinet, shape}
+use Rattle.board.specs.Calls.{Call, frame, offer, fetch, save, load, cabinet, keep, recall, shape}
 use Rattle.board.specs.Behaviour.{Behaviour}
 use Rattle.board.specs.Account.{sent, boardAt, outcomeAt}
 use Rattle.board.specs.Demands.{deeds, shown}
@@ -59,6 +59,14 @@ loads area b = refl
 pub cabinets : (n : ℕ) → Unswitching (cabinet n)
 unfolding shape
 cabinets n b = refl
+
+pub keeps : (store : List ℕ) → Unswitching (keep store)
+unfolding shape
+keeps store b = refl
+
+pub recalls : (store : List ℕ) (edition : ℕ) → Unswitching (recall store edition)
+unfolding shape
+recalls store edition b = refl
 
 -- so it shows the switches as they were
 pub unswitched : (B : Behaviour) → SwitchFact B → (c : Call) → Unswitching c → (cells perKm : ℕ) (cs : List Call)

@@ -1,4 +1,4 @@
--- The switch fact shuts out wrong boards: one that forgets its latches at a handover, one that turns a switch on at a load, one whose clear
+-- The switch fact shuts out wrong boards: one that forgets its latches at a handover, one that turns a switch on at a recall, one whose clear
 -- of events ends a latch, one that keeps a switch off although its condition recovered, and one that recovers OT by what is connected now,
 -- without W-204's memory.
 -- Assumes nothing.
@@ -8,9 +8,9 @@ use mathlib.Core.List.{List, [], _∷_}
 use Prim.Native.Nat.{ℕ}
 use lib.IntN.{ℤ, pos, negsuc}
 use lib.ListN.{replicate}
-use Rattle.laws.specs.History.{any}
-use Rattle.events.specs.Area.{areaOf}
-use Rattle.events.specs.Events.{noEvents}
+use Rattle.laws.specs.History.{some, any}
+use Rattle.classes.specs.Store.{keptStore}
+use Rattle.settings.specs.Settings.{factory}
 use Rattle.guard.specs.declared.Condition.the-variants.{UV, OV, OT, DOC, COC, ROC, LT}
 use Rattle.guard.specs.declared.Guard.{Guard}
 use Rattle.guard.specs.Guard.{noGuard, noneRemembered}
@@ -21,9 +21,9 @@ use Rattle.hire.specs.Hire as hire
 use Rattle.board.specs.declared.Board.{Board}
 use Rattle.board.specs.State.{withPack, withHire}
 use Rattle.board.specs.Start.{startBoard}
-use Rattle.board.specs.Calls.{Call, Seen, tick, frame, handover, load, shape, step, seen}
+use Rattle.board.specs.Calls.{Call, Seen, tick, frame, handover, recall, shape, step, seen}
 use Rattle.board.specs.Behaviour.{Behaviour, board}
-use Rattle.board.specs.Deeds.{Deed, took, hands, forgets}
+use Rattle.board.specs.Deeds.{Deed, took, row, hands, forgets}
 use Rattle.board.specs.Demands.{deeds}
 use Rattle.board.proofs.Opened.{accounted}
 use Rattle.life.specs.Recorded.{recovery, recordedEver}
@@ -60,12 +60,12 @@ low = tick (29000 ∷ replicate 3 37000) still
 abbrev heated : Call
 heated = tick level (reading (pos 0) (pos 600))
 
--- 0x02 option 01; a load of an area with no event
+-- 0x02 option 01; a recall of the factory settings, the first edition of a store
 abbrev clear : Call
 clear = frame (0xAA ∷ 0x02 ∷ 0x01 ∷ 0x91 ∷ 0x40 ∷ []) 259
 
-abbrev loading : Call
-loading = load (areaOf noEvents)
+abbrev recalling : Call
+recalling = recall (keptStore (replicate 512 0) factory) 1
 
 -- ---- ours, but at calls that do such a deed the board and what it shows are otherwise
 
@@ -110,15 +110,15 @@ unfolding accounted recordedEver recovery namesDischarge
 clearing-fails h =
     let z : true ≡ false = h .discharge-off 4 2000 (drawn ∷ clear ∷ []) level still refl (DOC, refl, refl) in absurd (false≢true (sym z))
 
--- ---- a load turns discharge on
+-- ---- a recall turns discharge on
 
 abbrev pub waking : Behaviour
-waking = otherwise (λ d. forgets d && not (hands d)) (λ b. withHire b (hire.withDischarge (b .hire) true))
+waking = otherwise (λ d. some (row d .writes)) (λ b. withHire b (hire.withDischarge (b .hire) true))
 
 pub waking-fails : ¬ SwitchFact waking
 unfolding accounted recordedEver recovery
 waking-fails h =
-    let z : true ≡ false = ap (λ p. p .1) (h .nothing-else 4 2000 (drawn ∷ []) loading refl) in absurd (false≢true (sym z))
+    let z : true ≡ false = ap (λ p. p .1) (h .nothing-else 4 2000 (drawn ∷ []) recalling refl) in absurd (false≢true (sym z))
 
 -- ---- a switch stays off although its condition recovered
 
