@@ -236,3 +236,25 @@ latched-by-events (m ∷ ms) w ROC = alike m ms (w .0) ROC (latched-by-events ms
     (let e = w .0 in waits-on (held ROC) waitOf m ms (omega arith))
 latched-by-events (m ∷ ms) w LT = alike m ms (w .0) LT (latched-by-events ms (w .1) LT)
     (stands-next (held LT) (λ m. externalsMild (m .settings) (m .readings)) m ms)
+
+-- so all that the plain engine answers is told by the events
+pub plain-engine : (ms : List Moment) → Waiting ms
+    → latchedFrom ms ≡ record {
+      uv = unrecovered UV (recordedEver ms);
+      ov = unrecovered OV (recordedEver ms);
+      ot = unrecovered OT (recordedEver ms);
+      doc = unrecovered DOC (recordedEver ms);
+      coc = unrecovered COC (recordedEver ms);
+      roc = unrecovered ROC (recordedEver ms);
+      lt = unrecovered LT (recordedEver ms);
+    }
+unfolding is
+plain-engine ms w = sym (λ i. record {
+  uv = latched-by-events ms w UV i;
+  ov = latched-by-events ms w OV i;
+  ot = latched-by-events ms w OT i;
+  doc = latched-by-events ms w DOC i;
+  coc = latched-by-events ms w COC i;
+  roc = latched-by-events ms w ROC i;
+  lt = latched-by-events ms w LT i;
+})
