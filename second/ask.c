@@ -108,6 +108,8 @@ static struct settings make_settings(struct script *script)
             wanted.of[number - 300] = (uint16_t)make_value(script, number);
         }
     }
+    if (so_many_of(script, script->mix.writes_of_334, 100))
+        wanted.of[34] = (uint16_t)between(script, 0, 6);
     const int one = one_in(script, 4) ? PICK(script, ((const int[]){0, 99})) : between(script, 0, 99);
     if (one_in(script, 20))
         wanted.of[one] = (uint16_t)(one_in(script, 2) ? 1 : between(script, 0, 65535));

@@ -398,6 +398,12 @@ void set_up(struct board *board, struct store *store)
     *store = (struct store){.length = STORE_BYTES};
 }
 
+bool begins_with(const char *line, size_t length, const char *word)
+{
+    struct words words = {line, line + length};
+    return another_word(&words) && take_word(&words, word);
+}
+
 /* Reading: only "#" as the very first byte makes a comment, " #" is a word that is no call.
    Reading: a comment or a line of spaces alone gives no answer however long it is; any other line over 4,000 bytes
    (its LF or CR LF not counted) is "?". */

@@ -28,10 +28,14 @@ void set_up(struct board *board, struct store *store);
    0 for a line that gives none. */
 size_t answer_line(struct board *board, struct store *store, const char *line, size_t length, char answer[ANSWER_ROOM]);
 
+/* Whether this is the line's first word. */
+bool begins_with(const char *line, size_t length, const char *word);
+
 /* What a script is made of: calls of every kind, ticks alone, what an app sends with some ticks between; or calls of
    every kind with a quarter of the frames of W-202, or with a twentieth of the calls saves and loads, or with a twentieth
-   of what a cabinet reads, or of handovers, or with a tenth of stores, keeps, recalls and scans. */
-enum script_kind { MIXED, TICKS, FRAMES, QUICK, MEMORY, CABINET, DESK, CLASSES };
+   of what a cabinet reads, or of handovers, or with a tenth of stores, keeps, recalls and scans, or with two thirds of
+   ticks, which turn the switches on and off. */
+enum script_kind { MIXED, TICKS, FRAMES, QUICK, MEMORY, CABINET, DESK, CLASSES, LIFE };
 
 /* Prints a script of calls, the first of them a start where they are ticks or frames; always the same for one seed. */
 void print_script(uint64_t seed, uint64_t calls, enum script_kind kind);

@@ -1,9 +1,11 @@
 /* second                          answers calls from standard input on standard output
    second --fault N                the same with one slip of the old board, N 1 to 6
+   second --events                 prints, for each call from standard input, what the switch fact of W-212 speaks of
    second --script SEED CALLS      prints a script of calls that press the limits
    second --script SEED CALLS K    the same of one kind, K ticks or frames; or of all kinds, K quick with a quarter of
                                    the frames of W-202, K memory with a twentieth of the calls of W-205, K cabinet with
-                                   a twentieth of W-213, K desk with a twentieth of W-214, K classes with a tenth of W-210
+                                   a twentieth of W-213, K desk with a twentieth of W-214, K classes with a tenth of W-210,
+                                   K life with two thirds of ticks, for W-212
    second --limits NAME            prints a script that drives a count to its end; limits.c has the names
    second --compare NAME SCRIPT    holds the board's answers, on standard input, to its own answers to the file SCRIPT
    second --replay                 plays a recording from standard input, and prints its events
@@ -113,6 +115,46 @@ static void answer_all(void)
     free(input.bytes);
 }
 
+/* ---- What the switch fact of W-212 speaks of ---- */
+
+/* "tick CHARGER IGNITION R334 EVENT..", of a tick that was accepted. It notes 8 events at most, one of the charger and one
+   of each condition, so they are all there, whatever is kept of those before them. */
+static void print_tick(const struct board *board, uint64_t noted_before)
+{
+    printf("tick %d %d %d", board->readings.charger, board->readings.ignition, board_register(board, 334));
+    for (uint64_t at = noted_before; at < board->events_noted; at++)
+        printf(" %02X", board->event[at % EVENTS_KEPT].number);
+    printf("\n");
+}
+
+/* A line for each call that gives an answer: an accepted tick, start or handover by its name, any other as "-". */
+static void print_events(void)
+{
+    const char *line;
+    char answer[ANSWER_ROOM];
+    size_t length;
+    struct input input = read_from(stdin);
+    struct board board;
+    struct store store;
+    set_up(&board, &store);
+    while (next_line(&input, &line, &length)) {
+        const uint64_t noted_before = board.events_noted;
+        length = without_end(line, length);
+        if (answer_line(&board, &store, line, length, answer) == 0)
+            continue;
+        const bool accepted = answer[0] == '0' && answer[1] == ' ';
+        if (accepted && begins_with(line, length, "tick"))
+            print_tick(&board, noted_before);
+        else if (accepted && begins_with(line, length, "start"))
+            puts("start");
+        else if (accepted && begins_with(line, length, "handover"))
+            puts("handover");
+        else
+            puts("-");
+    }
+    free(input.bytes);
+}
+
 /* ---- Answers held to those of another program ---- */
 
 static void show(const char *who, const char *line, size_t length)
@@ -194,7 +236,7 @@ static int print_script_of(int words, char **word)
         const char *name;
         enum script_kind kind;
     } kinds[] = {{"ticks", TICKS}, {"frames", FRAMES}, {"quick", QUICK}, {"memory", MEMORY}, {"cabinet", CABINET},
-                 {"desk", DESK}, {"classes", CLASSES}};
+                 {"desk", DESK}, {"classes", CLASSES}, {"life", LIFE}};
     const uint64_t seed = number_of("SEED", word[2], 0, UINT64_MAX), calls = number_of("CALLS", word[3], 1, UINT64_MAX);
     if (words == 4) {
         print_script(seed, calls, MIXED);
@@ -250,6 +292,10 @@ static int obey_words(int words, char **word)
         return print_limits(word[2]) ? ALL_WELL : WRONG_WORDS;
     if (words == 4 && strcmp(order, "--compare") == 0)
         return compare_with(word[2], word[3]) ? ALL_WELL : FAILED;
+    if (words == 2 && strcmp(order, "--events") == 0) {
+        print_events();
+        return ALL_WELL;
+    }
     if (words == 3 && strcmp(order, "--fault") == 0)
         board_fault = (int)number_of("N", word[2], 1, 6);
     else if (words != 1)
@@ -262,8 +308,8 @@ int main(int words, char **word)
 {
     const int status = obey_words(words, word);
     if (status == WRONG_WORDS)
-        fputs("usage: second | second --fault 1..6\n"
-              "       second --script SEED CALLS [ticks|frames|quick|memory|cabinet|desk|classes]\n"
+        fputs("usage: second | second --fault 1..6 | second --events\n"
+              "       second --script SEED CALLS [ticks|frames|quick|memory|cabinet|desk|classes|life]\n"
               "       second --limits latchings|currents|distance|charge|event-time|event-numbers\n"
               "       second --compare NAME SCRIPT | second --replay | second --calls | second --engine\n"
               "       second --line [RECORDING] | second --bill | second --bills SEED N [cut|past]\n"

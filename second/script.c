@@ -466,7 +466,8 @@ static const char *const junk[] = {
     "start 8 -1", "start -0 0", "start +8 2000", "Start 8 2000", "start 8 2000.", "start  8   x", "startle 8 2000",
     "start8 2000", "start 008 02000", "handover 1", "handover 1 32 1", "handover 4294967296 32", "handover -0 32",
     "handover 42949672950 32", "handover 1 601", "handover 1 -1", "handover 0004294967295 032", "handover x 32",
-    "handover 1 x", "handover 1,32", "Handover 1 32", "handover1 32", "handover +1 32", "handover  7   32 ", "handover now", "HANDOVER", "handove", "handover\t", "\thandover", "  handover  ",
+    "handover 1 x", "handover 1,32", "Handover 1 32", "handover1 32", "handover +1 32", "handover  7   32 ",
+    "handover now", "HANDOVER", "handove", "handover\t", "\thandover", "  handover  ",
     " # no comment", "frame", "frame 601 AA 18 7F 1A", "frame -0 AA 18 7F 1A", "frame 259 A", "frame 259 AAA 18 7F 1A",
     "frame 259 GG", "frame 259 A/", "frame 259 :A", "frame 259 @A", "frame 259 A`", "frame 259 aG",
     "frame 259 AA 18 7F 1A \x01", "frame AA 18 7F 1A", "frame 0x259 AA 18 7F 1A", "frame 0259 aa 18 7f 1A",
@@ -562,6 +563,8 @@ static void say_call(struct script *script)
     const int kind = between(script, 0, 9999);
     if (script->board.cells == 0) {
         say_call_without_board(script);
+    } else if (so_many_of(script, script->mix.ticks, 100)) {
+        say_next_tick(script);
     } else if (so_many_of(script, script->mix.saves_and_loads, 1000)) {
         say_save_or_load(script);
     } else if (so_many_of(script, script->mix.cabinets, 1000)) {
@@ -610,6 +613,10 @@ static struct mix mix_of(enum script_kind kind)
     case CABINET: mix.cabinets = 52; mix.cabinet_ticks = 50; break;
     case DESK: mix.handovers = 520; mix.charge_ticks = 40; break;
     case CLASSES: mix.classes = 105; break;
+    case LIFE:
+        mix = (struct mix){.ticks = 20, .quick_commands = 20, .saves_and_loads = 30, .cabinets = 20, .cabinet_ticks = 3,
+                           .handovers = 100, .charge_ticks = 1, .classes = 60, .writes_of_334 = 40};
+        break;
     default: break;
     }
     return mix;

@@ -10,6 +10,7 @@ enum heat { COOL, WARM, HOT, UNPLUGGED };
 
 /* How often some calls come, and some ticks. */
 struct mix {
+    int ticks;                  /* so many calls of 100, and some of the others */
     int quick_commands;         /* so many requests of 100 are of W-202 */
     int saves_and_loads;        /* so many calls of 1,000 */
     int cabinets;               /* so many calls of 1,000 */
@@ -17,6 +18,7 @@ struct mix {
     int handovers;              /* so many calls of 10,000 */
     int charge_ticks;           /* so many ticks of 100 have a large current */
     int classes;                /* so many calls of 1,000 are of W-210 */
+    int writes_of_334;          /* so many writes of 100 are also one of 334 */
 };
 
 struct script {

@@ -89,7 +89,8 @@ module _ (b : Board) (r : Receiver) where
         none = λ e. e;
         done = request-changes s (requestOf s);
       }
-  same (handover number n) e = record { fetches = refl; rows = refl; lent = refl; carries = refl; held = noBytes; none = λ e. refl; done = refl }
+  same (handover number n) e =
+      record { fetches = refl; rows = refl; lent = refl; carries = refl; held = noBytes; none = λ e. refl; done = refl }
   same (offer bytes) e = absurd (false≢true (sym e))
   same (fetch room) e = absurd (false≢true (sym e))
   same (save n) e = record { fetches = refl; rows = refl; lent = refl; carries = refl; held = r; none = λ e. e; done = refl }

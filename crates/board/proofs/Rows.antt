@@ -39,7 +39,7 @@ unfolding numbers idle opened
 held = refl
 
 -- 2 and 3 by `frame`, before what the bytes ask; 31 by a save, 71 by a cabinet's call, 83 by a handover, 51 by a keep and a recall
-others : numbers 4 (frame (0xAB ∷ 0x18 ∷ 0x00 ∷ 0x00 ∷ []) 259 ∷ frame (0xAA ∷ 0x00 ∷ 0x00 ∷ 0x00 ∷ []) 259 ∷ save 247 ∷ save 248 ∷ cabinet 19
-    ∷ cabinet 20 ∷ handover 0 31 ∷ handover 0 32 ∷ keep [] ∷ recall [] 0 ∷ []) ≡ 2 ∷ 3 ∷ 31 ∷ 0 ∷ 71 ∷ 0 ∷ 83 ∷ 0 ∷ 51 ∷ 51 ∷ []
+others : numbers 4 (frame (0xAB ∷ 0x18 ∷ 0x00 ∷ 0x00 ∷ []) 259 ∷ frame (0xAA ∷ 0x00 ∷ 0x00 ∷ 0x00 ∷ []) 259 ∷ save 247 ∷ save 248
+    ∷ cabinet 19 ∷ cabinet 20 ∷ handover 0 31 ∷ handover 0 32 ∷ keep [] ∷ recall [] 0 ∷ []) ≡ 2 ∷ 3 ∷ 31 ∷ 0 ∷ 71 ∷ 0 ∷ 83 ∷ 0 ∷ 51 ∷ 51 ∷ []
 unfolding numbers opened
 others = refl

@@ -23,7 +23,8 @@ unfoldable pub use Rattle.board.specs.Account.LastTick.{chargeAt, discha
 unfoldable pub use Rattle.board.specs.Account.Recorded.{someEvent, newestFirst, numbersOf, recordedNow, loading, keptSince, newSince}
 unfoldable pub use Rattle.board.specs.Account.Recorded.{eventsAt}
 unfoldable pub use Rattle.board.specs.Account.SinceTheClear.{latching, latchings, entering, externals, coldestOf, hottestOf}
-unfoldable pub use Rattle.board.specs.Account.SinceTheClear.{temperaturesOf, pulsesAt, positiveAt, negativeAt, statisticsAt, distanceAt}
+unfoldable pub use Rattle.board.specs.Account.SinceTheClear.{temperaturesOf, pulsesAt, positiveAt, negativeAt, statisticsAt}
+unfoldable pub use Rattle.board.specs.Account.SinceTheClear.{distanceAt}
 unfoldable pub use Rattle.board.specs.Account.OffTheLine.{hearing, heardAt, heldAt}
 
 -- ---- the whole board, from the history

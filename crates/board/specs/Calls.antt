@@ -36,9 +36,10 @@ use Rattle.board.specs.Handover.{recordFor, handedOver}
 use Rattle.board.specs.Deeds.{Deed, took, wrote, handed, heard, fetched, loaded}
 
 -- the calls after a start: a tick (cells and the other readings), a frame (its bytes, and the length of the reply buffer that is lent), and
--- a handover (the desk's pack number, and the length of the record that is lent); of the raw line, an offer (its bytes) and a fetch (the length of the reply buffer that is lent); of the pack's memory, a save
--- (the length of the area that is lent) and a load (the area); for a partner's cabinet, the length of the slice that is lent;
--- of hire classes, a keep (the store that is lent) and a recall (the store, and an edition)
+-- a handover (the desk's pack number, and the length of the record that is lent); of the raw line, an offer (its bytes) and a fetch (the
+-- length of the reply buffer that is lent); of the pack's memory, a save (the length of the area that is lent) and a load (the area); for a
+-- partner's cabinet, the length of the slice that is lent; of hire classes, a keep (the store that is lent) and a recall (the store, and an
+-- edition)
 pub data Call : Type 0 where
   tick : List ℕ → Readings → Call
   frame : List ℕ → ℕ → Call

@@ -1,7 +1,7 @@
 -- W-214, the charge of a hire. "The sums leave the board in that record and nowhere else": two boards that differ in the sums alone answer
--- every call alike ever after, but for the record of the first handover, and for that too once the statistics were cleared; it holds of every
--- board that meets demand 2, and a board that shows a sum in its replies fails it. "And start at zero for the next rider": the record of a
--- handover is that of the ticks since the handover before it, whatever came earlier.
+-- every call alike ever after, but for the record of the first handover, and for that too once the statistics were cleared; it holds of
+-- every board that meets demand 2, and a board that shows a sum in its replies fails it. "And start at zero for the next rider": the record
+-- of a handover is that of the ticks since the handover before it, whatever came earlier.
 -- Assumes nothing.
 use mathlib.Core.Path.{_≡_, refl, sym, ap, _∙_}
 use mathlib.Core.Bool.{Bool, true, false, _&&_, not, cond, false≢true}
@@ -38,7 +38,8 @@ use Rattle.board.specs.Line.{heldIn, letGo}
 use Rattle.board.specs.Handover.{recordFor, handedOver}
 use Rattle.board.specs.Changes.{changedBy, askedDeeds}
 use Rattle.board.specs.Calls.{Call, tick, frame, handover, offer, fetch, save, load, cabinet, keep, recall}
-use Rattle.board.specs.Calls.{Seen, seen, Lent, nothingLent, areaLent, replyLent, shape, outcomeOf, letsGo, boardBy, seenOf, outcomeIn, boardAfter, step}
+use Rattle.board.specs.Calls.{Seen, seen, Lent, nothingLent, areaLent, replyLent, shape, outcomeOf, letsGo, boardBy, seenOf}
+use Rattle.board.specs.Calls.{outcomeIn, boardAfter, step}
 use Rattle.board.specs.Behaviour.{Behaviour, board, afterIn, answersIn}
 use Rattle.board.specs.Account.{Deed, took, wrote, cleared, forgot, sent, handed, heard, fetched, loaded, row, clears, hands, ticking}
 use Rattle.board.specs.Account.{secondsAt, clockAt, statisticsAt, distanceAt, boardAt}
@@ -134,7 +135,6 @@ module _ (b : Board) (x : Sums) where
   record Hides (c : Call) : Type 0 where
     rows : shape c .rows (withSums b x) ≡ shape c .rows b
     carries : shape c .carries (withSums b x) ≡ shape c .carries b
-    deeds-alike : shape c .deeds (withSums b x) ≡ shape c .deeds b
     sums : Sums
     done : shape c .done (withSums b x) ≡ withSums (shape c .done b) sums
     fresh : any clears (shape c .deeds b) ≡ true → withSums (shape c .done b) sums ≡ shape c .done b
@@ -145,12 +145,24 @@ module _ (b : Board) (x : Sums) where
   unwritten true area area′ e = absurd (false≢true (sym e))
   unwritten false area area′ e = refl
 
+  -- a call that leaves the sums as they are
+  leaving : (c : Call) → shape c .rows (withSums b x) ≡ shape c .rows b → shape c .carries (withSums b x) ≡ shape c .carries b
+      → shape c .done (withSums b x) ≡ withSums (shape c .done b) x → any clears (shape c .deeds b) ≡ false
+      → ((o : Outcome) → seenOf (shape c .lent (withSums b x)) o ≡ seenOf (shape c .lent b) o) → Hides c
+  leaving c rows carries done none alike = record {
+    rows = rows;
+    carries = carries;
+    sums = x;
+    done = done;
+    fresh = λ e. absurd (false≢true (sym none ∙ e));
+    seen-alike = λ o e. alike o;
+  }
+
   hides : (c : Call) → Hides c
   unfolding shape steps handedOver newHire seenOf statistics.riddenOf statistics.countedOf statistics.summedOf statistics.clearedAt noSums
   hides (tick given r) = record {
     rows = refl;
     carries = refl;
-    deeds-alike = refl;
     sums = statistics.summedOf x (r .current);
     done = refl;
     fresh = λ e. absurd (false≢true e);
@@ -161,7 +173,6 @@ module _ (b : Board) (x : Sums) where
       record {
         rows = refl;
         carries = refl;
-        deeds-alike = refl;
         sums = ch .sums;
         done = ch .changed;
         fresh = ch .fresh;
@@ -170,77 +181,28 @@ module _ (b : Board) (x : Sums) where
   hides (handover number n) = record {
     rows = refl;
     carries = refl;
-    deeds-alike = refl;
     sums = noSums;
     done = refl;
     fresh = λ e. refl;
     seen-alike = λ o e. unwritten (isDone o) _ _ e;
   }
-  hides (offer bytes) = record {
-    rows = refl;
-    carries = refl;
-    deeds-alike = refl;
-    sums = x;
-    done = refl;
-    fresh = λ e. absurd (false≢true e);
-    seen-alike = λ o e. refl;
-  }
+  hides (offer bytes) = leaving (offer bytes) refl refl refl refl (λ o. refl)
   hides (fetch room) =
-      let ch = changes (heldIn b) (requestOf (heldIn b)) in
+      let held = heldIn b in
+      let ch = changes held (requestOf held) in
       record {
         rows = refl;
         carries = refl;
-        deeds-alike = refl;
         sums = ch .sums;
         done = ap letGo (ch .changed);
         fresh = λ e. ap letGo (ch .fresh e);
-        seen-alike = λ o e. ap (λ (reply : List ℕ). seenOf (replyLent (heldIn b) room reply) o) (request-reply (heldIn b) (requestOf (heldIn b)));
+        seen-alike = λ o e. ap (λ (reply : List ℕ). seenOf (replyLent held room reply) o) (request-reply held (requestOf held));
       }
-  hides (save n) = record {
-    rows = refl;
-    carries = refl;
-    deeds-alike = refl;
-    sums = x;
-    done = refl;
-    fresh = λ e. absurd (false≢true e);
-    seen-alike = λ o e. refl;
-  }
-  hides (load area) = record {
-    rows = refl;
-    carries = refl;
-    deeds-alike = refl;
-    sums = x;
-    done = refl;
-    fresh = λ e. absurd (false≢true e);
-    seen-alike = λ o e. refl;
-  }
-  hides (cabinet n) = record {
-    rows = refl;
-    carries = refl;
-    deeds-alike = refl;
-    sums = x;
-    done = refl;
-    fresh = λ e. absurd (false≢true e);
-    seen-alike = λ o e. refl;
-  }
-  hides (keep store) = record {
-    rows = refl;
-    carries = refl;
-    deeds-alike = refl;
-    sums = x;
-    done = refl;
-    fresh = λ e. absurd (false≢true e);
-    seen-alike = λ o e. refl;
-  }
-  hides (recall store edition) = record {
-    rows = refl;
-    carries = refl;
-    deeds-alike = refl;
-    sums = x;
-    done = refl;
-    fresh = λ e. absurd (false≢true e);
-    seen-alike = λ o e. refl;
-  }
+  hides (save n) = leaving (save n) refl refl refl refl (λ o. refl)
+  hides (load area) = leaving (load area) refl refl refl refl (λ o. refl)
+  hides (cabinet n) = leaving (cabinet n) refl refl refl refl (λ o. refl)
+  hides (keep store) = leaving (keep store) refl refl refl refl (λ o. refl)
+  hides (recall store edition) = leaving (recall store edition) refl refl refl refl (λ o. refl)
 
 -- ---- so one call on both boards
 
@@ -272,14 +234,16 @@ module _ (b : Board) (x : Sums) (c : Call) where
   cleared-alike e = boards ∙ go (isDone o) (letsGo (shape c) o) e
     where
       go : (t u : Bool) → (t && any clears (shape c .deeds b)) ≡ true
-          → withSums (cond t (shape c .done b) (cond u (letGo b) b)) (cond t (hides b x c .sums) x) ≡ cond t (shape c .done b) (cond u (letGo b) b)
+          → withSums (cond t (shape c .done b) (cond u (letGo b) b)) (cond t (hides b x c .sums) x)
+          ≡ cond t (shape c .done b) (cond u (letGo b) b)
       go true u e = hides b x c .fresh e
       go false u e = absurd (false≢true e)
 
   -- what is seen: all of it, but where a handover is done its record
   seen-whole : (isDone o && any hands (shape c .deeds b)) ≡ false → step (withSums b x) c .1 ≡ step b c .1
   seen-whole e =
-      (λ i. seen (boards i) (outcomes i) (seenOf (shape c .lent (withSums b x)) (outcomes i)) (cond (isDone (outcomes i)) (hides b x c .carries i) 0))
+      (λ i. seen (boards i) (outcomes i) (seenOf (shape c .lent (withSums b x)) (outcomes i))
+      (cond (isDone (outcomes i)) (hides b x c .carries i) 0))
       ∙ ap (λ (buffer : List ℕ). seen (boardAfter b c) o buffer (cond (isDone o) (shape c .carries b) 0)) (hides b x c .seen-alike o e)
 
   seen-but-record : withoutRecord (step (withSums b x) c .1) ≡ withoutRecord (step b c .1)
@@ -308,14 +272,17 @@ unfolding answersIn
 one-more b x c cs next =
     go (isDone (outcomeIn b c)) refl (any clears (shape c .deeds b)) refl (any hands (shape c .deeds b)) refl
   where
-    on : butRecord (boardAfter b c) cs (answersIn board (boardAfter (withSums b x) c) cs) ≡ butRecord (boardAfter b c) cs (answersIn board (boardAfter b c) cs)
+    on : butRecord (boardAfter b c) cs (answersIn board (boardAfter (withSums b x) c) cs)
+        ≡ butRecord (boardAfter b c) cs (answersIn board (boardAfter b c) cs)
     on = ap (λ (z : Board). butRecord (boardAfter b c) cs (answersIn board z cs)) (boards b x c) ∙ next (later b x c)
 
     go : (d : Bool) → isDone (outcomeIn b c) ≡ d → (t : Bool) → any clears (shape c .deeds b) ≡ t → (k : Bool)
         → any hands (shape c .deeds b) ≡ k
-        → cond (d && t) (cond k (withoutRecord (step (withSums b x) c .1)) (step (withSums b x) c .1) ∷ (answersIn board (boardAfter (withSums b x) c) cs))
+        → cond (d && t)
+        (cond k (withoutRecord (step (withSums b x) c .1)) (step (withSums b x) c .1) ∷ answersIn board (boardAfter (withSums b x) c) cs)
         (step (withSums b x) c .1 ∷ butRecord (boardAfter b c) cs (answersIn board (boardAfter (withSums b x) c) cs))
-        ≡ cond (d && t) (cond k (withoutRecord (step b c .1)) (step b c .1) ∷ (answersIn board (boardAfter b c) cs)) (step b c .1 ∷ butRecord (boardAfter b c) cs (answersIn board (boardAfter b c) cs))
+        ≡ cond (d && t) (cond k (withoutRecord (step b c .1)) (step b c .1) ∷ answersIn board (boardAfter b c) cs)
+        (step b c .1 ∷ butRecord (boardAfter b c) cs (answersIn board (boardAfter b c) cs))
     go false e t f k g =
         let head = seen-whole b x c (ap (λ (u : Bool). u && any hands (shape c .deeds b)) e) in
         λ i. head i ∷ on i
@@ -410,8 +377,8 @@ from-handed (d ∷ ds) k e = go (clears d) e (from-handed ds k)
     go true e later = absurd (false≢true (sym e))
     go false e later = later e
 
--- the record of the next handover, whatever the history k before the last one: of the ticks since then, and of them alone; the seconds since
--- then; the latchings as registers 105 to 109 show them
+-- the record of the next handover, whatever the history k before the last one: of the ticks since then, and of them alone; the seconds
+-- since then; the latchings as registers 105 to 109 show them
 pub record OfTheNextRider (ds k : List Deed) (perKm : ℕ) (r : Record) : Type 0 where
   pub seconds : r .seconds ≡ secondsAt (ds ++ (handed ∷ k)) - secondsAt k
   pub positive : r .positive ≡ min statistics.largestSum (sum (λ t. above (t .1 .current)) (ticksOf ds))

@@ -1,6 +1,6 @@
--- W-210 on boards. A recall that is accepted is a write of twelve by 0x0D, to the byte of the state, and changes nothing but the settings: no
--- switch, latch, wait or statistic. What a board that a start reaches keeps, any usable board recalls as it was kept. (The laws of the store
--- itself: crate `classes`, specs/Laws.)
+-- W-210 on boards. A recall that is accepted is a write of twelve by 0x0D, to the byte of the state, and changes nothing but the settings:
+-- no switch, latch, wait or statistic. What a board that a start reaches keeps, any usable board recalls as it was kept. (The laws of the
+-- store itself: crate `classes`, specs/Laws.)
 -- Assumes nothing.
 use mathlib.Core.Path.{_≡_, refl, sym, ap, _∙_, subst⁻¹}
 use mathlib.Core.Bool.{Bool, true, false, cond}
@@ -75,7 +75,8 @@ module _ (b : Board) (store : List ℕ) (edition : ℕ) (accepted : outcomeIn b 
 judged : (st : Settings) → Fits st → drafts.Held st → settings.judgedOf (settings.valuesOf st) ≡ Done
 judged st fits held =
     drafts.done-is (settings.draftOf st) .1 (
-      λ register low high. ap (settings.fits register) (drafts.begun-at st register low high) ∙ drafts.in-range-is st .0 (fits .0) register low high,
+      λ register low high.
+          ap (settings.fits register) (drafts.begun-at st register low high) ∙ drafts.in-range-is st .0 (fits .0) register low high,
       ap settings.ordered (drafts.begun-settings st held) ∙ fits .1,
     )
 

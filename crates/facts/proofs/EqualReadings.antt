@@ -1,6 +1,7 @@
 -- W-213: "Equal readings must give equal slices, whatever the history." Two boards, from any two starts and after any calls: where their
 -- last ticks read the same, their cabinets' slices are the same; settings, events, latches and statistics are free, and so are the cell
--- counts as far as the cells agree. It holds of every board that meets demand 2; a board that shows its lifetime in a free register fails it.
+-- counts as far as the cells agree. It holds of every board that meets demand 2; a board that shows its lifetime in a free register fails
+-- it.
 -- Assumes nothing.
 use mathlib.Core.Path.{_≡_, refl, sym, ap, _∙_}
 use mathlib.Core.Bool.{Bool, true, cond}

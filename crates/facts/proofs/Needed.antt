@@ -89,7 +89,8 @@ needs-tenths alike =
 pub needs-clock : ¬ Alike board
     (λ h k. (settingsAt h ≡ settingsAt k) × (latchedAt h ≡ latchedAt k) × (waitsAt h ≡ waitsAt k) × (rememberedAt h ≡ rememberedAt k))
 needs-clock alike =
-    needs-tenths (λ cells perKm xs ys zs number number′ same. alike cells perKm xs ys zs number number′ (same .0, same .2, same .3, same .4))
+    needs-tenths
+    (λ cells perKm xs ys zs number number′ same. alike cells perKm xs ys zs number number′ (same .0, same .2, same .3, same .4))
 
 -- ---- equal latched conditions
 

@@ -30,9 +30,11 @@ frame-replies = refl
 others : List Refusal
 others =
     WrongCells ∷ WrongCurrent ∷ NoInternal ∷ WrongPulses ∷ NoBoard ∷ FrameHeld ∷ NoFrameHeld ∷ WrongArea ∷ UsedAfterUnused ∷ NeverRecorded
-    ∷ WrongStore ∷ SpoiltStore ∷ NoEdition ∷ BrokenRules ∷ EditionsUsedUp ∷ BadRecord ∷ CutRecord ∷ WrongSlice ∷ CutBill ∷ PastTotal ∷ WrongRecord ∷ []
+    ∷ WrongStore ∷ SpoiltStore ∷ NoEdition ∷ BrokenRules ∷ EditionsUsedUp ∷ BadRecord ∷ CutRecord ∷ WrongSlice ∷ CutBill ∷ PastTotal
+    ∷ WrongRecord ∷ []
 
-other-numbers : map refusalNumber others ≡ 11 ∷ 12 ∷ 13 ∷ 14 ∷ 21 ∷ 6 ∷ 7 ∷ 31 ∷ 32 ∷ 33 ∷ 51 ∷ 52 ∷ 53 ∷ 54 ∷ 55 ∷ 61 ∷ 62 ∷ 71 ∷ 81 ∷ 82 ∷ 83 ∷ []
+other-numbers : map refusalNumber others
+    ≡ 11 ∷ 12 ∷ 13 ∷ 14 ∷ 21 ∷ 6 ∷ 7 ∷ 31 ∷ 32 ∷ 33 ∷ 51 ∷ 52 ∷ 53 ∷ 54 ∷ 55 ∷ 61 ∷ 62 ∷ 71 ∷ 81 ∷ 82 ∷ 83 ∷ []
 unfolding others
 other-numbers = refl
 

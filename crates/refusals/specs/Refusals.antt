@@ -16,8 +16,8 @@ use Rattle.refusals.specs.declared.Left.the-variants.{Zeros, Nack}
 use Rattle.refusals.specs.declared.Outcome.{Outcome}
 use Rattle.refusals.specs.declared.Outcome.the-variants.{Done, Refused}
 
--- document 01: frames, ticks, a start; and W-201, W-205, W-208 (41 to 45 in the place of 4), W-210, W-211, W-213 and W-214 of document 02. There is no number 5
--- since W-209
+-- document 01: frames, ticks, a start; and W-201, W-205, W-208 (41 to 45 in the place of 4), W-210, W-211, W-213 and W-214 of document 02.
+-- There is no number 5 since W-209
 abbrev pub refusalNumber : Refusal → ℕ
 refusalNumber NoRoom = 1
 refusalNumber Foreign = 2

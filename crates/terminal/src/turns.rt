@@ -92,8 +92,8 @@ fn told(answer: Answer, out: &mut [u8], said: usize) -> Turn {
     after(answer.board, put_told(out, said, state))
 }
 
-// A frame, a fetch, a save, a cabinet's call, a handover and a register read the board in memory. Each has a function of its own, which copies it there for its
-// own lines; in the match above every line would copy it.
+// A frame, a fetch, a save, a cabinet's call, a handover and a register read the board in memory. Each has a function of its own, which copies
+// it there for its own lines; in the match above every line would copy it.
 fn framed(board: Board, request: &[u8], reply: &mut [u8], out: &mut [u8], said: usize) -> Turn {
     let answer = board.frame(request, reply);
     let outcome = answer.outcome;

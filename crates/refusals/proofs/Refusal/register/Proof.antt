@@ -65,8 +65,10 @@ returns c = rw (c .before .self .given .1)
 
 returns-2 : tie.Need-returns-2
 returns-2 c =
-    let others-of = others (0 ∷ 1 ∷ 2 ∷ 3 ∷ 4 ∷ 5 ∷ 7 ∷ 8 ∷ 9 ∷ 10 ∷ 11 ∷ 12 ∷ 13 ∷ 14 ∷ 15 ∷ 16 ∷ 17 ∷ 18 ∷ 19 ∷ 20 ∷ 21 ∷ 22 ∷ 23 ∷ 24 ∷ 25 ∷ 26 ∷ 27 ∷ 28 ∷ []) 6 in
-    rw (none (c .before .args .self) (others-of _ (c .match .keys2) tt))
+    let keys : List ℕ =
+    0 ∷ 1 ∷ 2 ∷ 3 ∷ 4 ∷ 5 ∷ 7 ∷ 8 ∷ 9 ∷ 10 ∷ 11 ∷ 12 ∷ 13 ∷ 14 ∷ 15 ∷ 16 ∷ 17 ∷ 18 ∷ 19 ∷ 20 ∷ 21 ∷ 22 ∷ 23 ∷ 24 ∷ 25 ∷ 26 ∷ 27
+    ∷ 28 ∷ [] in
+    rw (none (c .before .args .self) (others keys 6 _ (c .match .keys2) tt))
 
 pub register-spec : {M : Type 1} → statement M
 register-spec = tie.close (tie.spec enum-known-self returns returns-2)
