@@ -6,11 +6,12 @@
 use mathlib.Core.Path.{_≡_, refl, sym, ap, _∙_}
 use mathlib.Core.Bool.{Bool, true, false, _&&_, not, cond, false≢true}
 use mathlib.Core.List.{List, [], _∷_, _++_}
-use Prim.Native.Nat.{ℕ, _%_, _-_, _≤_, min}
+use Prim.Native.Nat.{ℕ, _+_, _%_, _-_, _≤_, min}
 use native.Mathlib.Omega.{arith}
 use lib.IntN.{pos, negsuc}
-use lib.ListN.{set}
-use Rattle.laws.specs.History.{each, since, from, any, sum}
+use lib.ListN.{set, length-append}
+use Rattle.laws.specs.History.{never, each, since, from, any, sum}
+use Rattle.guard.specs.declared.Condition.the-variants.{UV, OV, OT, DOC, COC, ROC}
 use Rattle.refusals.specs.declared.Refusal.{Refusal}
 use Rattle.refusals.specs.declared.Refusal.the-variants.{NoBoard}
 use Rattle.refusals.specs.declared.Outcome.{Outcome}
@@ -42,7 +43,7 @@ use Rattle.board.specs.Calls.{Seen, seen, Lent, nothingLent, areaLent, replyLen
 use Rattle.board.specs.Calls.{outcomeIn, boardAfter, step}
 use Rattle.board.specs.Behaviour.{Behaviour, board, afterIn, answersIn}
 use Rattle.board.specs.Account.{Deed, took, wrote, cleared, forgot, sent, handed, heard, fetched, loaded, row, clears, hands, ticking}
-use Rattle.board.specs.Account.{secondsAt, clockAt, statisticsAt, distanceAt, boardAt}
+use Rattle.board.specs.Account.{countAt, secondsAt, clockAt, latchings, statisticsAt, distanceAt, boardAt}
 use Rattle.board.specs.Demands.{deeds, reached, withoutRecord, Demand2}
 use Rattle.board.proofs.Opened.{steps, accounted}
 use Rattle.board.proofs.Account.Shown.{distance-shown}
@@ -378,12 +379,17 @@ from-handed (d ∷ ds) k e = go (clears d) e (from-handed ds k)
     go false e later = later e
 
 -- the record of the next handover, whatever the history k before the last one: of the ticks since then, and of them alone; the seconds
--- since then; the latchings as registers 105 to 109 show them
+-- since then; the latchings since then, as registers 105 to 109 count them
 pub record OfTheNextRider (ds k : List Deed) (perKm : ℕ) (r : Record) : Type 0 where
   pub seconds : r .seconds ≡ secondsAt (ds ++ (handed ∷ k)) - secondsAt k
   pub positive : r .positive ≡ min statistics.largestSum (sum (λ t. above (t .1 .current)) (ticksOf ds))
   pub negative : r .negative ≡ min statistics.largestSum (sum (λ t. below (t .1 .current)) (ticksOf ds))
   pub distance : r .distance ≡ statistics.distanceOf (sum (λ t. t .1 .pulses) (ticksOf ds)) perKm
+  pub counted : r .latchings
+      ≡ min 65535 (latchings UV (ds ++ (handed ∷ k))) + min 65535 (latchings OV (ds ++ (handed ∷ k)))
+      + min 65535 (latchings DOC (ds ++ (handed ∷ k)))
+      + min 65535 (latchings COC (ds ++ (handed ∷ k)) + latchings ROC (ds ++ (handed ∷ k)))
+      + min 65535 (latchings OT (ds ++ (handed ∷ k)))
 
 pub from-zero : (cells perKm number : ℕ) (ds k : List Deed) → perKm ≤ 65535 → any clears ds ≡ false
     → OfTheNextRider ds k perKm (recordFor (boardAt cells perKm (ds ++ (handed ∷ k))) number)
@@ -397,4 +403,23 @@ from-zero cells perKm number ds k held e =
       distance =
           distance-shown perKm (ds ++ (handed ∷ k)) held
           ∙ ap (λ l. statistics.distanceOf (sum (λ t. t .1 .pulses) l) perKm) ticks;
+      counted = refl;
     }
+
+-- ---- the seconds of a record do not stop at 0: no board was cleared later than it lived
+
+more-ticks : (d : Deed) (h : List Deed) → countAt h ≤ countAt (d ∷ h)
+more-ticks d h = let l = length-append (row d .ticks) (each ticking (since never h)) in omega (arith, l)
+
+count-from : (h : List Deed) → countAt (from clears h) ≤ countAt h
+count-from [] = omega arith
+count-from (d ∷ h) = go (clears d) (count-from h)
+  where
+    go : (t : Bool) → countAt (from clears h) ≤ countAt h → countAt (cond t (d ∷ h) (from clears h)) ≤ countAt (d ∷ h)
+    go true i = omega arith
+    go false i = let m = more-ticks d h in omega arith
+
+pub cleared-before : (cells perKm : ℕ) (h : List Deed)
+    → boardAt cells perKm h .hire .statistics .cleared ≤ boardAt cells perKm h .pack .clock .seconds
+unfolding boardAt statisticsAt clockAt secondsAt
+cleared-before cells perKm h = let m = count-from h in omega arith
