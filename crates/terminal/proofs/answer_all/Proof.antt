@@ -58,84 +58,22 @@ block-read-requires-2 c κs = tt
 
 sub-turns : tie.Need-sub-turns Inv-loop μ-loop
 sub-turns c =
-    let at10 = c .before .before .before .before .before .before .before .before .before .before in
-    let at11 = at10 .before in
-    let at12 = at11 .before in
-    let at13 = at12 .before in
-    let at14 = at13 .before in
-    let at15 = at14 .before in
-    let at16 = at15 .before in
-    let at17 = at16 .before in
-    let at18 = at17 .before in
-    let at19 = at18 .before in
-    let at20 = at19 .before in
-    let at21 = at20 .before in
-    let at22 = at21 .before in
-    let at23 = at22 .before in
-    let at24 = at23 .before in
-    let at25 = at24 .before in
-    let at26 = at25 .before in
-    omega (arith, at10, at11, at12, at13, at14, at15, at16, at17, at18, at19, at20, at21, at22, at23, at24, at25, at26)
+    let read = c .before .before .before .before .before .before .before .before .before .before .before in
+    let turn = read .before .before .before .before .before .before .before .before .before .before .before in
+    omega (arith, turn, turn .before)
 
 loop-less : tie.Need-loop-less Inv-loop μ-loop
 loop-less c =
-    let at10 = c .before .before .before .before .before .before .before .before .before .before in
-    let at11 = at10 .before in
-    let at12 = at11 .before in
-    let at13 = at12 .before in
-    let at14 = at13 .before in
-    let at15 = at14 .before in
-    let at16 = at15 .before in
-    let at17 = at16 .before in
-    let at18 = at17 .before in
-    let at19 = at18 .before in
-    let at20 = at19 .before in
-    let at21 = at20 .before in
-    let at22 = at21 .before in
-    let at23 = at22 .before in
-    let at24 = at23 .before in
-    let at25 = at24 .before in
-    let at26 = at25 .before in
-    let at27 = at26 .before in
-    let at28 = at27 .before in
-    omega (arith, at10, at11, at12, at13, at14, at15, at16, at17, at18, at19, at20, at21, at22, at23, at24, at25, at26, at27, at28)
+    let read = c .before .before .before .before .before .before .before .before .before .before .before .before in
+    let turn = read .before .before .before .before .before .before .before .before .before .before .before .before in
+    omega (arith, turn, turn .before)
 
 loop-again : tie.Need-loop-again Inv-loop μ-loop
 loop-again c =
-    let at1 = c .before in
-    let at2 = at1 .before in
-    let at3 = at2 .before in
-    let at4 = at3 .before in
-    let at5 = at4 .before in
-    let at6 = at5 .before in
-    let at7 = at6 .before in
-    let at8 = at7 .before in
-    let at9 = at8 .before in
-    let at10 = at9 .before in
-    let at11 = at10 .before in
-    let at12 = at11 .before in
-    let at13 = at12 .before in
-    let at14 = at13 .before in
-    let at15 = at14 .before in
-    let at16 = at15 .before in
-    let at17 = at16 .before in
-    let at18 = at17 .before in
-    let at19 = at18 .before in
-    let at20 = at19 .before in
-    let at21 = at20 .before in
-    let at22 = at21 .before in
-    let at23 = at22 .before in
-    let at24 = at23 .before in
-    let at25 = at24 .before in
-    let at26 = at25 .before in
-    let at27 = at26 .before in
-    let at28 = at27 .before in
-    let at29 = at28 .before in (
-      omega (arith, at1, at2, at3, at4, at5, at6, at7, at8, at9, at10, at11, at12, at13, at14, at15, at16, at17, at18, at19, at20, at21, at22, at23, at24, at25, at26, at27, at28, at29),
-      omega (arith, at1, at2, at3, at4, at5, at6, at7, at8, at9, at10, at11, at12, at13, at14, at15, at16, at17, at18, at19, at20, at21, at22, at23, at24, at25, at26, at27, at28, at29),
-      omega (arith, at1, at2, at3, at4, at5, at6, at7, at8, at9, at10, at11, at12, at13, at14, at15, at16, at17, at18, at19, at20, at21, at22, at23, at24, at25, at26, at27, at28, at29),
-      omega (arith, at1, at2, at3, at4, at5, at6, at7, at8, at9, at10, at11, at12, at13, at14, at15, at16, at17, at18, at19, at20, at21, at22, at23, at24, at25, at26, at27, at28, at29),
-    )
+    let done = c .before .before .before .before .before .before in
+    let later = done .before .before .before .before .before .before .before in
+    let inv = later .before .before .before .before .before .before .before .before .before .before .before .before .before .loop .inv in
+    (omega (arith, inv), omega (arith, inv, done), omega (arith, inv, done), omega (arith, inv))
 
 slice-aggregate-end-answered : tie.Need-slice-aggregate-end-answered Inv-loop μ-loop
 slice-aggregate-end-answered c = search needs

@@ -9,8 +9,8 @@ use Rattle.terminal.proofs.block_answered.Tie as tie
 
 abbrev Inv-loop : tie.InvT-loop
 Inv-loop board₀ store₀ length₀ block line₀ held₀ out₀ request₀ voltages₀ said₀ from₀ end₀ board store length line held out request voltages said from end =
-    (from ≤ end) × (list.length line ≡ list.length line₀) × (list.length out ≡ list.length out₀) × (600 ≡ list.length request) × (32 ≡ list.length voltages)
-    × (list.length store ≡ list.length store₀)
+    (from ≤ end) × (list.length line ≡ list.length line₀) × (list.length out ≡ list.length out₀) × (600 ≡ list.length request)
+    × (32 ≡ list.length voltages) × (list.length store ≡ list.length store₀)
 
 abbrev μ-loop : tie.MeasureT-loop
 μ-loop board₀ store₀ length₀ block line₀ held₀ out₀ request₀ voltages₀ said₀ from₀ end₀ board store length line held out request voltages said from end =
@@ -74,48 +74,13 @@ with-room-requires : tie.Need-with-room-requires Inv-loop μ-loop
 with-room-requires c κs = search needs
 
 loop-less : tie.Need-loop-less Inv-loop μ-loop
-loop-less c =
-    let at9 = c .before .before .before .before .before .before .before .before .before in
-    let at10 = at9 .before in
-    let at11 = at10 .before in
-    let at12 = at11 .before in
-    let at13 = at12 .before in
-    let at14 = at13 .before in
-    let at15 = at14 .before in
-    let at16 = at15 .before in
-    let at17 = at16 .before in
-    let at18 = at17 .before in
-    omega (arith, at9, at10, at11, at12, at13, at14, at15, at16, at17, at18)
+loop-less c = omega (arith, c .before .before .before .before .before .before .before .before .before .before .before .before .before)
 
 loop-again : tie.Need-loop-again Inv-loop μ-loop
 loop-again c =
-    let at1 = c .before in
-    let at2 = at1 .before in
-    let at3 = at2 .before in
-    let at4 = at3 .before in
-    let at5 = at4 .before in
-    let at6 = at5 .before in
-    let at7 = at6 .before in
-    let at8 = at7 .before in
-    let at9 = at8 .before in
-    let at10 = at9 .before in
-    let at11 = at10 .before in
-    let at12 = at11 .before in
-    let at13 = at12 .before in
-    let at14 = at13 .before in
-    let at15 = at14 .before in
-    let at16 = at15 .before in
-    let at17 = at16 .before in
-    let at18 = at17 .before in
-    let at19 = at18 .before in
-    let at20 = at19 .before in (
-      omega (arith, at1, at2, at3, at4, at5, at6, at7, at8, at9, at10, at11, at12, at13, at14, at15, at16, at17, at18, at19, at20),
-      omega (arith, at1, at2, at3, at4, at5, at6, at7, at8, at9, at10, at11, at12, at13, at14, at15, at16, at17, at18, at19, at20),
-      omega (arith, at1, at2, at3, at4, at5, at6, at7, at8, at9, at10, at11, at12, at13, at14, at15, at16, at17, at18, at19, at20),
-      omega (arith, at1, at2, at3, at4, at5, at6, at7, at8, at9, at10, at11, at12, at13, at14, at15, at16, at17, at18, at19, at20),
-      omega (arith, at1, at2, at3, at4, at5, at6, at7, at8, at9, at10, at11, at12, at13, at14, at15, at16, at17, at18, at19, at20),
-      omega (arith, at1, at2, at3, at4, at5, at6, at7, at8, at9, at10, at11, at12, at13, at14, at15, at16, at17, at18, at19, at20),
-    )
+    let next = c .before .before .before .before .before .before .before .before .before .before .before .before .before in
+    let said = c .before .before .before .before in
+    (omega (arith, next), omega (arith, next), omega (arith, next, said), search needs, search needs, omega (arith, next, said))
 
 written-requires : tie.Need-written-requires Inv-loop μ-loop
 written-requires c κs = search needs
