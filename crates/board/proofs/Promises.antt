@@ -15,8 +15,8 @@ use Rattle.board.specs.declared.Stored.{Stored}
 use Rattle.answers.specs.declared.Shown.{Shown}
 use Rattle.board.specs.Promises.{Starts, Answers, Leaves, Offers, Stores, ShowsRegister, ShowsCharge, ShowsDischarge, ShowsDecision}
 use Rattle.board.specs.Promises.{ShowsBalancing, ShowsLifetime, CountsKept, ShowsKept, CountsNew, ShowsNew}
-use Rattle.board.specs.Calls.{Call, offer, Lent, nothingLent, replyLent, areaLent, Seen, seen, shape, seenOf, leftOf, outcomeIn}
-use Rattle.board.specs.Calls.{boardAfter, step}
+use Rattle.board.specs.Calls.{Call, offer, keep, Lent, nothingLent, replyLent, areaLent, Seen, seen, shape, seenOf, leftOf, outcomeIn}
+use Rattle.board.specs.Calls.{boardAfter, carriedBy, step}
 
 -- any two results that a promise allows are equal
 abbrev pub Determines : (A : Type 0) → (A → Type 0) → Type 0
@@ -91,6 +91,16 @@ seenIn nothingLent outcome after = []
 seenIn (replyLent s room reply) outcome after = after
 seenIn (areaLent area) outcome after = cond (isDone outcome) after []
 
+area-seen : (t : Bool) (area before : List ℕ) → cond t (cond t area before) [] ≡ cond t area []
+area-seen true area before = refl
+area-seen false area before = refl
+
+same-seen : (before : List ℕ) (l : Lent) (o : Outcome) → seenIn l o (leftOf l o before) ≡ seenOf l o
+unfolding seenOf leftOf
+same-seen before nothingLent o = refl
+same-seen before (replyLent s room reply) o = refl
+same-seen before (areaLent area) o = area-seen (isDone o) area before
+
 pub lent-steps : (b : Board) (c : Call) (before : List ℕ) (r : Answer) (after : List ℕ) → shape c .carries b ≡ 0 → Leaves b c before r after
     → _≡_ {A = Board × Seen} (r .board, seen (r .board) (r .outcome) (seenIn (shape c .lent b) (r .outcome) after) 0) (step b c)
 unfolding seenOf leftOf
@@ -102,7 +112,7 @@ lent-steps b c before r after k f =
     ))
     ∙ (λ i. (
       boardAfter b c,
-      seen (boardAfter b c) (outcomeIn b c) (same (shape c .lent b) (outcomeIn b c) i)
+      seen (boardAfter b c) (outcomeIn b c) (same-seen before (shape c .lent b) (outcomeIn b c) i)
           (none (isDone (outcomeIn b c)) i),
     ))
   where
@@ -110,16 +120,24 @@ lent-steps b c before r after k f =
     none true = sym k
     none false = refl
 
-    area-seen : (t : Bool) (area : List ℕ) → cond t (cond t area before) [] ≡ cond t area []
-    area-seen true area = refl
-    area-seen false area = refl
-
-    same : (l : Lent) (o : Outcome) → seenIn l o (leftOf l o before) ≡ seenOf l o
-    same nothingLent o = refl
-    same (replyLent s room reply) o = refl
-    same (areaLent area) o = area-seen (isDone o) area
-
 pub offer-steps : (b : Board) (bytes : List ℕ) (r : Heard) → Offers b bytes r
     → _≡_ {A = Board × Seen} (r .board, seen (r .board) (r .outcome) [] (r .taken)) (step b (offer bytes))
 unfolding shape seenOf
 offer-steps b bytes r p = λ i. (p i .board, seen (p i .board) (p i .outcome) [] (p i .taken))
+
+-- a keep, with its edition
+pub keep-steps : (b : Board) (store : List ℕ) (r : Stored) (after : List ℕ) → Stores b store r after
+    → _≡_ {A = Board × Seen}
+    (r .board, seen (r .board) (r .outcome) (seenIn (shape (keep store) .lent b) (r .outcome) after) (r .edition)) (step b (keep store))
+keep-steps b store r after f =
+    let c = keep store in
+    (λ i. (
+      f .answer i .board,
+      seen (f .answer i .board) (f .answer i .outcome) (seenIn (shape c .lent b) (f .answer i .outcome) (f .lent i))
+          (f .answer i .edition),
+    ))
+    ∙ (λ i. (
+      boardAfter b c,
+      seen (boardAfter b c) (outcomeIn b c) (same-seen store (shape c .lent b) (outcomeIn b c) i)
+          (carriedBy b c),
+    ))

@@ -378,8 +378,8 @@ from-handed (d ∷ ds) k e = go (clears d) e (from-handed ds k)
     go true e later = absurd (false≢true (sym e))
     go false e later = later e
 
--- the record of the next handover, whatever the history k before the last one: of the ticks since then, and of them alone; the seconds
--- since then; the latchings since then, as registers 105 to 109 count them
+-- the record of the next handover, where no clear came between, whatever the history k before the last one: of the ticks since then, and of
+-- them alone; the seconds since then; the latchings since then, as registers 105 to 109 count them
 pub record OfTheNextRider (ds k : List Deed) (perKm : ℕ) (r : Record) : Type 0 where
   pub seconds : r .seconds ≡ secondsAt (ds ++ (handed ∷ k)) - secondsAt k
   pub positive : r .positive ≡ min statistics.largestSum (sum (λ t. above (t .1 .current)) (ticksOf ds))
