@@ -2,9 +2,9 @@
 use native.Mathlib.Omega.{arith}
 use borrow.Author.Tests.{lt-ltb, le-ltb, eq-eqb, ne-eqb}
 use borrow.Author.Needs.{needs}
-use Rattle.port.specs.Port.{lengthIn}
-use Rattle.port.proofs.length_in.Statement.{statement}
-use Rattle.port.proofs.length_in.Tie as tie
+use Rattle.answers.specs.Length.{lengthIn}
+use Rattle.answers.proofs.length.length_in.Statement.{statement}
+use Rattle.answers.proofs.length.length_in.Tie as tie
 
 returns : tie.Need-returns
 unfolding lengthIn

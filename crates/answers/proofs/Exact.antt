@@ -33,19 +33,18 @@ use Rattle.replies.specs.Replies.{word16, words, sealed, padded}
 use Rattle.replies.proofs.Writing.{words-length}
 use Rattle.pack.specs.declared.Pack.{Pack}
 use Rattle.hire.specs.declared.Hire.{Hire}
 use Rattle.answers.specs.Registers.{valueAt}
 use Rattle.answers.specs.Answers.{cellsOf, withRegister, bodyBy, bodyOf, takenReply, acceptedReply, leftReply, replyBy}
 use Rattle.answers.specs.Answers.{askedOutcome, askedReply}
 use Rattle.answers.proofs.Made.{reply-length}
-use Rattle.port.specs.Port as port
-use Rattle.port.specs.Port.{lengthIn}
+use Rattle.answers.specs.Length.{lengthBy, lengthIn}
 
 -- ---- the commands of blocks have a PL, and 0x14 to 0x19 send as many registers as their command says
 
 fits : Query → ℕ → Bool
-fits (Registers command at n) pl = eqb (port.lengthBy command pl) (5 + pl)
+fits (Registers command at n) pl = eqb (lengthBy command pl) (5 + pl)
 fits (Listed n) pl = true
-fits (Bare command at n) pl = eqb (port.lengthBy command pl) (4 + 2 * n)
+fits (Bare command at n) pl = eqb (lengthBy command pl) (4 + 2 * n)
 fits NewEvents pl = true
 fits AllEvents pl = true
 fits Temperatures pl = true
@@ -80,7 +79,7 @@ either P true p q = p
 either P false p q = q
 
 expected : (c third seventh pl : ℕ) → Asks pl (expectedOf c third seventh)
-unfolding expectedOf asks fits port.lengthBy
+unfolding expectedOf asks fits lengthBy
 expected c third seventh pl =
     either (Asks pl) (eqb c 0x02) (record { asks = refl })
     (either (Asks pl) (eqb c 0x03) (record { asks = refl })
@@ -103,7 +102,7 @@ expected c third seventh pl =
     (record { asks = refl }))))))))))))))))))
 
 fields : (s : List ℕ) (pl : ℕ) (k : Command) → asks k pl ≡ true → Reads pl (fieldsOf k s .asks)
-unfolding reads fits asks fieldsOf port.lengthBy
+unfolding reads fits asks fieldsOf lengthBy
 fields s pl Clear e = either (Reads pl) (eqb (getD s 2 0) 1) (record { reads = refl }) (record { reads = refl })
 fields s pl Block e = record { reads = eq-eqb (5 + pl) (5 + pl) refl }
 fields s pl QuickBlock e = record { reads = eq-eqb (5 + pl) (5 + pl) refl }
@@ -150,7 +149,7 @@ unfolding padded
 front room xs = take-append-add xs (replicate (room - length xs) 0) 0 ∙ append-nil xs
 
 told : (room c : ℕ) (ys : List ℕ) → 259 ≤ room → 2 + length ys ≤ 259
-    → port.lengthBy c (getD (padded room (0xAA ∷ c ∷ ys)) 2 0) ≡ 2 + length ys → Exact room (0xAA ∷ c ∷ ys)
+    → lengthBy c (getD (padded room (0xAA ∷ c ∷ ys)) 2 0) ≡ 2 + length ys → Exact room (0xAA ∷ c ∷ ys)
 unfolding lengthIn padded
 told room c ys large small e =
     let xs : List ℕ = 0xAA ∷ c ∷ ys in
@@ -163,14 +162,14 @@ told room c ys large small e =
 module _ (room : ℕ) (large : 259 ≤ room) where
   -- a head of two bytes, data and CRC
   headed : (c : ℕ) (ys : List ℕ) → length (sealed (0xAA ∷ c ∷ ys)) ≤ 259
-      → port.lengthBy c (getD (padded room (sealed (0xAA ∷ c ∷ ys))) 2 0) ≡ 4 + length ys → Exact room (sealed (0xAA ∷ c ∷ ys))
+      → lengthBy c (getD (padded room (sealed (0xAA ∷ c ∷ ys))) 2 0) ≡ 4 + length ys → Exact room (sealed (0xAA ∷ c ∷ ys))
   unfolding sealed
   headed c ys h e =
       let n = length-append ys (le16 (crcOf (0xAA ∷ c ∷ ys))) in
       told room c (ys ++ le16 (crcOf (0xAA ∷ c ∷ ys))) large (omega (arith, n, h)) (e ∙ omega (arith, n))
 
   -- the same with the number of the data's bytes before them
-  counted : (c n : ℕ) (ys : List ℕ) → ((pl : ℕ) → port.lengthBy c pl ≡ 5 + pl) → length ys ≡ n → length (sealed (0xAA ∷ c ∷ n ∷ ys)) ≤ 259
+  counted : (c n : ℕ) (ys : List ℕ) → ((pl : ℕ) → lengthBy c pl ≡ 5 + pl) → length ys ≡ n → length (sealed (0xAA ∷ c ∷ n ∷ ys)) ≤ 259
       → Exact room (sealed (0xAA ∷ c ∷ n ∷ ys))
   unfolding sealed padded
   counted c n ys says e h = headed c (n ∷ ys) h (says n ∙ omega (arith, e))
@@ -181,7 +180,7 @@ module _ (room : ℕ) (large : 259 ≤ room) where
     longs es n = words-length 4 le32 (eventLongs (p .clock .seconds) es) 0 (1 + n) (λ w. refl) ∙ omega arith
 
     body : (q : Query) → ((pl : ℕ) → fits q pl ≡ true) → length (sealed (bodyOf p h s q)) ≤ 259 → Exact room (sealed (bodyOf p h s q))
-    unfolding bodyBy fits port.lengthBy
+    unfolding bodyBy fits lengthBy
     body (Registers command at n) f l =
         counted command (2 * n) _ (λ pl. eqb-true _ (5 + pl) (f pl))
         (words-length 2 (word16 (eqb command 0x03)) (valueAt p h) at n (two (eqb command 0x03))) l
@@ -201,13 +200,13 @@ module _ (room : ℕ) (large : 259 ≤ room) where
         (λ w. refl)) l
 
     taken : (f : Form) (n : ℕ) → length (sealed (takenReply f s n)) ≤ 259 → Exact room (sealed (takenReply f s n))
-    unfolding takenReply port.lengthBy
+    unfolding takenReply lengthBy
     taken form.Modbus n l = headed 0x10 (be16 (be16At s 2) ++ be16 n) l refl
     taken form.Block n l = headed 0x01 (0x0B ∷ []) l refl
     taken form.List n l = headed 0x01 (0x0D ∷ []) l refl
 
     accepted : (q : Request) → ((pl : ℕ) → reads q pl ≡ true) → length (acceptedReply p h s q) ≤ 259 → Exact room (acceptedReply p h s q)
-    unfolding acceptedReply reads port.lengthBy
+    unfolding acceptedReply reads lengthBy
     accepted (request.Refused refusal) f l = none room
     accepted request.ClearEvents f l = headed 0x01 (0x02 ∷ []) l refl
     accepted request.ClearStatistics f l = headed 0x01 (0x02 ∷ []) l refl
@@ -215,7 +214,7 @@ module _ (room : ℕ) (large : 259 ≤ room) where
     accepted (request.Read q) f l = body q f l
 
     refused : (left : Left) → length (leftReply left s) ≤ 259 → Exact room (leftReply left s)
-    unfolding port.lengthBy
+    unfolding lengthBy
     refused Zeros l = none room
     refused (Nack error) l = headed 0x00 (getD s 1 0 ∷ error ∷ []) l refl
 

@@ -1,9 +1,9 @@
 -- By cases on the second byte, in the definition's order. Assumes nothing.
 use borrow.Author.Tests.{ne-eqb}
 use borrow.Author.Needs.{needs}
-use Rattle.port.specs.Port.{lengthBy}
-use Rattle.port.proofs.length_by.Statement.{statement}
-use Rattle.port.proofs.length_by.Tie as tie
+use Rattle.answers.specs.Length.{lengthBy}
+use Rattle.answers.proofs.length.length_by.Statement.{statement}
+use Rattle.answers.proofs.length.length_by.Tie as tie
 
 add-result : tie.Need-add-result
 add-result c = search needs
