@@ -167,6 +167,9 @@ uint16_t crc_of(const uint8_t *bytes, size_t length);
    where they do not tell yet. */
 size_t length_of_request(const uint8_t *first, size_t bytes);
 
+/* Of the reply that a reply buffer begins with, where there is one. */
+size_t length_of_reply(const uint8_t *reply);
+
 /* 320 is signed 16-bit; every other setting is read as it stands. */
 static inline int read_setting(const struct settings *settings, unsigned number)
 {

@@ -2,27 +2,27 @@
 #ifndef CONSOLE_H
 #define CONSOLE_H
 
-#include "board.h"
+#include "call.h"
 
-/* The console's limits, in the words of its paper. */
+/* The limits of its text. */
 enum {
-    MOST_BYTES = 300,                   /* "0 to 300 bytes" */
-    MOST_CELLS_LENT = 32,               /* "0 to 32 cells" */
-    MOST_REGISTERS_LENT = 40,           /* "a slice of LENGTH registers, 0 to 40" */
-    MOST_ROOM = 600,                    /* "a reply buffer of ROOM bytes, 0 to 600", "an area", "a record" and a store */
     LONGEST_LINE = 4000,                /* "a line over 4,000 bytes" is answered "?" */
+    CALL_ROOM = 3 * MOST_ROOM + 48,     /* for a call's line at its longest, "store LENGTH BYTE.." */
     ANSWER_ROOM = 3 * MOST_ROOM + 48    /* for "NUMBER SWITCHES NEED REAL EDITION BYTE.. +Z" at its longest, and its LF */
 };
 
-/* W-210: "the console's one store of classes" */
-struct store {
-    uint8_t bytes[MOST_ROOM];
-    size_t length;
-};
+/* A line that gives no answer, one that is a call, and one that is answered "?". */
+enum line_kind { NO_ANSWER, A_CALL, NOT_A_CALL };
 
-/* "Before the first `start` a call is made on a board that was started with 0 cells"; before the first `store` the store
-   "has 512 zeros". */
-void set_up(struct board *board, struct store *store);
+/* Reads one line (without its end); where it is a call, into room that the call points to. */
+enum line_kind read_line(const char *line, size_t length, struct call *call);
+
+/* Both write a line without its end, and give back where it ends. */
+char *say_call(char *at, const struct call *call, bool in_lower_case);
+char *say_answer(char *at, const struct call *call, const struct answer *answer, const struct store *store);
+
+/* Its line, on standard output. */
+void print_call(const struct call *call);
 
 /* Makes the call of one line (without its end) and writes the answer with its LF; gives back the answer's length,
    0 for a line that gives none. */

@@ -337,6 +337,22 @@ size_t length_of_request(const uint8_t *first, size_t bytes)
     }
 }
 
+/* A reply has its PL, but: "NACK: AA 00 CMD ERROR", "ACK: AA 01 CMD", 0x10's address and RL, and 0x14 to 0x19, which
+   have none and send two registers or one. */
+size_t length_of_reply(const uint8_t *reply)
+{
+    switch (reply[1]) {
+    case 0x01:
+        return 5;
+    case 0x00: case 0x16: case 0x17: case 0x18:
+        return 6;
+    case 0x10: case 0x14: case 0x15: case 0x19:
+        return 8;
+    default:
+        return 5 + (size_t)reply[2];
+    }
+}
+
 /* "The command byte decides the length and the meaning": "0x10, 9+2*RL bytes", whatever its PL; the others as on the line. */
 static bool has_its_length(const uint8_t *frame, size_t length)
 {

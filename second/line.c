@@ -4,22 +4,6 @@
 
 #include <stdio.h>
 
-/* A reply has its PL, but: "NACK: AA 00 CMD ERROR", "ACK: AA 01 CMD", 0x10's address and RL, and 0x14 to 0x19, which
-   have none and send two registers or one. */
-static size_t length_of_reply(const uint8_t *reply)
-{
-    switch (reply[1]) {
-    case 0x01:
-        return 5;
-    case 0x00: case 0x16: case 0x17: case 0x18:
-        return 6;
-    case 0x10: case 0x14: case 0x15: case 0x19:
-        return 8;
-    default:
-        return 5 + (size_t)reply[2];
-    }
-}
-
 /* "a board that a recording was played into (`line` alone: a board of 8 cells and 2000 pulses per km, no tick yet)". A recording that
    is refused is told of, and its board is as after the last good tick; where its opening is refused, or the recording cannot be read,
    there is none. */

@@ -21,8 +21,8 @@
 #include "console.h"
 #include "hire.h"
 #include "replay.h"
+#include "word.h"
 
-#include <errno.h>
 #include <inttypes.h>
 #include <stdio.h>
 #include <stdlib.h>
@@ -214,19 +214,6 @@ static bool compare_with(const char *name, const char *path)
 
 /* ---- The words after the program's name ---- */
 
-static uint64_t number_of(const char *name, const char *word, uint64_t least, uint64_t greatest)
-{
-    char *end;
-    errno = 0;
-    const uint64_t number = strtoull(word, &end, 10);
-    if (word[0] < '0' || word[0] > '9' || *end != '\0' || errno != 0 || number < least || number > greatest) {
-        fprintf(stderr, "second: %s is a number from %" PRIu64 " to %" PRIu64 ", not '%s'\n",
-                name, least, greatest, word);
-        exit(2);
-    }
-    return number;
-}
-
 /* What the program ends with. */
 enum { ALL_WELL = 0, FAILED = 1, WRONG_WORDS = 2 };
 
@@ -237,7 +224,7 @@ static int print_script_of(int words, char **word)
         enum script_kind kind;
     } kinds[] = {{"ticks", TICKS}, {"frames", FRAMES}, {"quick", QUICK}, {"memory", MEMORY}, {"cabinet", CABINET},
                  {"desk", DESK}, {"classes", CLASSES}, {"life", LIFE}};
-    const uint64_t seed = number_of("SEED", word[2], 0, UINT64_MAX), calls = number_of("CALLS", word[3], 1, UINT64_MAX);
+    const uint64_t seed = number_of("second", "SEED", word[2], 0, UINT64_MAX), calls = number_of("second", "CALLS", word[3], 1, UINT64_MAX);
     if (words == 4) {
         print_script(seed, calls, MIXED);
         return ALL_WELL;
@@ -254,8 +241,8 @@ static int print_script_of(int words, char **word)
 static int write_recording_of(int words, char **word)
 {
     const char *damage = words == 5 ? word[4] : NULL;
-    const uint64_t seed = number_of("SEED", word[2], 0, UINT64_MAX);
-    const uint64_t ticks = number_of("TICKS", word[3], damage != NULL, UINT64_MAX);
+    const uint64_t seed = number_of("second", "SEED", word[2], 0, UINT64_MAX);
+    const uint64_t ticks = number_of("second", "TICKS", word[3], damage != NULL, UINT64_MAX);
     return write_recording(seed, ticks, damage) ? ALL_WELL : WRONG_WORDS;
 }
 
@@ -263,9 +250,9 @@ static int write_recording_of(int words, char **word)
 static int write_hires_of(int words, char **word)
 {
     const char *damage = words == 5 ? word[4] : NULL;
-    const uint64_t seed = number_of("SEED", word[2], 0, UINT64_MAX);
+    const uint64_t seed = number_of("second", "SEED", word[2], 0, UINT64_MAX);
     const uint64_t least = damage == NULL ? 0 : strcmp(damage, "past") == 0 ? 2 : 1;
-    const uint64_t hires = number_of("N", word[3], least, UINT64_MAX);
+    const uint64_t hires = number_of("second", "N", word[3], least, UINT64_MAX);
     return write_hires(seed, hires, damage) ? ALL_WELL : WRONG_WORDS;
 }
 
@@ -297,7 +284,7 @@ static int obey_words(int words, char **word)
         return ALL_WELL;
     }
     if (words == 3 && strcmp(order, "--fault") == 0)
-        board_fault = (int)number_of("N", word[2], 1, 6);
+        board_fault = (int)number_of("second", "N", word[2], 1, 6);
     else if (words != 1)
         return WRONG_WORDS;
     answer_all();

@@ -2,25 +2,13 @@
    values lie at, one below and one above the limits of the settings then in force. */
 #include "script.h"
 
-#include <inttypes.h>
 #include <stdarg.h>
 #include <stdio.h>
 #include <string.h>
 
-/* ---- The line that is being written ---- */
-
-static void say(struct script *script, const char *format, ...)
-{
-    va_list values;
-    va_start(values, format);
-    script->length += (size_t)vsnprintf(script->line + script->length, sizeof script->line - script->length,
-                                        format, values);
-    va_end(values);
-}
-
 /* ---- Start ---- */
 
-static void say_start(struct script *script)
+static void draw_start(struct script *script, struct call *call)
 {
     static const int pulses[] = {0, 1, 2, 7, 100, 399, 999, 2000, 2000, 2000, 2000, 2000, 2000, 65534, 65535};
     static const int wrong[] = {0, 1, 3, 17, 18, 32, 255};
@@ -29,7 +17,9 @@ static void say_start(struct script *script)
         cells = one_in(script, 2) ? 4 : 16;
     if (one_in(script, 8))
         cells = PICK(script, wrong);
-    say(script, "start %d %d", cells, one_in(script, 6) ? between(script, 0, 65535) : PICK(script, pulses));
+    call->kind = CALL_START;
+    call->cells = (uint8_t)cells;
+    call->pulses_per_km = (uint16_t)(one_in(script, 6) ? between(script, 0, 65535) : PICK(script, pulses));
     script->quiet = 0;
     script->around_OT = 0;
     script->unstarted = 0;
@@ -216,7 +206,20 @@ static void press_charge(struct script *script, struct tick *tick)
     tick->current = one_in(script, 2) ? PICK(script, ends) : between(script, -1000000, 1000000);
 }
 
-static void say_tick(struct script *script)
+static void put_tick(const struct script *script, const struct tick *tick, struct call *call)
+{
+    call->kind = CALL_TICK;
+    call->readings = (struct readings){
+        .current = tick->current, .internal = (int16_t)tick->internal,
+        .external = {(int16_t)tick->external[0], (int16_t)tick->external[1]}, .pulses = (uint16_t)tick->pulses,
+        .charger = script->charger, .ignition = script->ignition
+    };
+    call->length = (size_t)tick->cells;
+    for (size_t at = 0; at < call->length; at++)
+        call->cell[at] = (uint16_t)tick->cell[at];
+}
+
+static void draw_tick(struct script *script, struct call *call)
 {
     struct tick tick;
     make_quiet(script, &tick);
@@ -249,49 +252,48 @@ static void say_tick(struct script *script)
         tick.cell[tick.cells++] = between(script, 0, 65535);
     if (one_in(script, 80) && tick.cells > 0)
         tick.cells--;
-    say(script, "tick %d %d %d %d %d %d %d", tick.current, tick.internal, tick.external[0], tick.external[1],
-        tick.pulses, script->charger, script->ignition);
-    for (int at = 0; at < tick.cells; at++)
-        say(script, " %d", tick.cell[at]);
+    put_tick(script, &tick, call);
 }
 
 /* ---- Frames ---- */
 
-static void say_bytes(struct script *script, const char *byte_format, const uint8_t *bytes, size_t length)
+static void put_bytes(struct call *call, enum call_kind kind, const uint8_t *bytes, size_t length)
 {
-    for (size_t at = 0; at < length; at++)
-        say(script, byte_format, bytes[at]);
+    call->kind = kind;
+    call->length = length;
+    memcpy(call->bytes, bytes, length);
 }
 
-static void say_request(struct script *script, int room, const char *byte_format, const struct request *request)
+static void put_request(struct call *call, const struct request *request)
 {
-    say(script, "frame %d", room);
-    say_bytes(script, byte_format, request->bytes, request->length < MOST_BYTES ? request->length : MOST_BYTES);
+    put_bytes(call, CALL_FRAME, request->bytes, request->length < MOST_BYTES ? request->length : MOST_BYTES);
 }
 
 /* Room for a reply, but for one time in so many. */
-static int make_room(struct script *script, int times)
+static size_t make_room(struct script *script, int times)
 {
     static const int rooms[] = {0, 1, 2, 257, 258, 258};
     static const int enough[] = {259, 259, 260, 261, 300, 600};
-    return one_in(script, times) ? PICK(script, rooms) : PICK(script, enough);
+    return (size_t)(one_in(script, times) ? PICK(script, rooms) : PICK(script, enough));
 }
 
-static void say_frame(struct script *script)
+static void draw_frame(struct script *script, struct call *call)
 {
     struct request request;
     ask(script, &request);
     if (one_in(script, 15))
         spoil(script, &request);
-    const int room = make_room(script, 30);
-    say_request(script, room, one_in(script, 20) ? " %02x" : " %02X", &request);
+    put_request(call, &request);
+    call->room = make_room(script, 30);
+    script->lower_case = one_in(script, 20);
 }
 
-static void say_app_frame(struct script *script)
+static void draw_app_frame(struct script *script, struct call *call)
 {
     struct request request;
     ask_as_app(script, &request);
-    say_request(script, LEAST_ROOM, " %02X", &request);
+    put_request(call, &request);
+    call->room = LEAST_ROOM;
 }
 
 /* ---- The raw line ---- */
@@ -327,15 +329,15 @@ static void send_request(struct script *script)
 
 /* Some or all of the bytes that wait: less than a frame, one or more of them. The bytes that are not taken wait to be
    offered again, or now and then are lost. */
-static void say_offer(struct script *script)
+static void draw_offer(struct script *script, struct call *call)
 {
     while (script->waiting_length == 0 || (script->waiting_length < MOST_BYTES && one_in(script, 3)))
         send_request(script);
     int length = hold((int)script->waiting_length, 0, MOST_BYTES);
     if (one_in(script, 2))
         length = between(script, 0, one_in(script, 2) ? hold(length, 0, 9) : length);
-    say(script, "offer");
-    say_bytes(script, one_in(script, 20) ? " %02x" : " %02X", script->waiting, (size_t)length);
+    put_bytes(call, CALL_OFFER, script->waiting, (size_t)length);
+    script->lower_case = one_in(script, 20);
     struct board after = script->board;
     size_t gone;
     board_offer(&after, script->waiting, (size_t)length, &gone);
@@ -345,51 +347,59 @@ static void say_offer(struct script *script)
     memmove(script->waiting, script->waiting + gone, script->waiting_length);
 }
 
+static void draw_fetch(struct script *script, struct call *call, int times)
+{
+    call->kind = CALL_FETCH;
+    call->room = make_room(script, times);
+}
+
 /* Offers until a frame is held, then its fetch; now and then an offer that is refused 6, or a fetch refused 7. */
-static void say_offer_or_fetch(struct script *script)
+static void draw_offer_or_fetch(struct script *script, struct call *call)
 {
     const bool refused = one_in(script, 8);
     if (holds_frame(&script->board) == refused)
-        say_offer(script);
+        draw_offer(script, call);
     else
-        say(script, "fetch %d", make_room(script, 12));
+        draw_fetch(script, call, 12);
 }
 
 /* ---- The pack's memory ---- */
 
-static void say_save(struct script *script)
+static void draw_save(struct script *script, struct call *call)
 {
     static const int wrong[] = {0, 1, OLD_AREA_BYTES - 1, OLD_AREA_BYTES, OLD_AREA_BYTES, OLD_AREA_BYTES + 1,
                                 AREA_BYTES - 1, AREA_BYTES + 1, 300, 600};
-    say(script, "save %d", one_in(script, 5) ? PICK(script, wrong) : AREA_BYTES);
+    call->kind = CALL_SAVE;
+    call->room = (size_t)(one_in(script, 5) ? PICK(script, wrong) : AREA_BYTES);
     board_save(&script->board, script->saved, AREA_BYTES);
 }
 
-static void say_load(struct script *script)
+static void draw_load(struct script *script, struct call *call)
 {
     uint8_t area[MOST_BYTES];
     const size_t length = make_area(script, area);
-    say(script, "load");
-    say_bytes(script, one_in(script, 20) ? " %02x" : " %02X", area, length);
+    put_bytes(call, CALL_LOAD, area, length);
+    script->lower_case = one_in(script, 20);
 }
 
-static void say_save_or_load(struct script *script)
+static void draw_save_or_load(struct script *script, struct call *call)
 {
     if (one_in(script, 2))
-        say_save(script);
+        draw_save(script, call);
     else
-        say_load(script);
+        draw_load(script, call);
 }
 
 /* ---- The cabinet ---- */
 
-static void say_cabinet(struct script *script)
+static void draw_cabinet(struct script *script, struct call *call)
 {
     static const int wrong[] = {0, 1, CABINET_REGISTERS - 1, CABINET_REGISTERS + 1, 40};
     int length = CABINET_REGISTERS;
     if (one_in(script, 5))
         length = one_in(script, 3) ? between(script, 0, MOST_REGISTERS_LENT) : PICK(script, wrong);
-    say(script, "cabinet %d", length);
+    call->kind = CALL_CABINET;
+    call->room = (size_t)length;
 }
 
 /* ---- The desk ---- */
@@ -404,22 +414,24 @@ static int make_hire_length(struct script *script)
 }
 
 /* Of either form. */
-static void say_handover(struct script *script)
+static void draw_handover(struct script *script, struct call *call)
 {
     static const uint32_t packs[] = {0, 1, 255, 256, 65535, 65536, INT32_MAX, INT32_MAX + UINT32_C(1), UINT32_MAX - 1,
                                      UINT32_MAX};
-    const uint32_t pack = one_in(script, 2) ? PICK(script, packs) : (uint32_t)draw(&script->chance);
-    const int length = make_hire_length(script);
-    if (one_in(script, 3))
-        say(script, "handover");
-    else
-        say(script, "handover %" PRIu32 " %d", pack, length);
+    call->kind = CALL_HANDOVER;
+    call->number = one_in(script, 2) ? PICK(script, packs) : (uint32_t)draw(&script->chance);
+    call->room = (size_t)make_hire_length(script);
+    call->alone = one_in(script, 3);
+    if (call->alone) {
+        call->number = 0;
+        call->room = HIRE_BYTES;
+    }
 }
 
 /* ---- Classes ---- */
 
 /* The zeros at its end are said, or some of them, or none. */
-static void say_store(struct script *script)
+static void draw_store(struct script *script, struct call *call)
 {
     const struct store store = make_store(script);
     size_t bytes = store.length;
@@ -429,35 +441,40 @@ static void say_store(struct script *script)
         bytes = (size_t)between(script, (int)bytes, (int)store.length);
     else if (one_in(script, 3))
         bytes = store.length;
-    say(script, "store %d", (int)store.length);
-    say_bytes(script, one_in(script, 20) ? " %02x" : " %02X", store.bytes, bytes);
+    put_bytes(call, CALL_STORE, store.bytes, bytes);
+    call->room = store.length;
+    script->lower_case = one_in(script, 20);
 }
 
-static void say_class(struct script *script)
+static void draw_class_call(struct script *script, struct call *call)
 {
     const int kind = between(script, 0, 9);
-    if (kind < 2)
-        say_store(script);
-    else if (kind < 5)
-        say(script, "keep");
-    else if (kind < 9)
-        say(script, "recall %" PRIu32, pick_edition(script));
-    else
-        say(script, "tidy");
+    if (kind < 2) {
+        draw_store(script, call);
+    } else if (kind < 5) {
+        call->kind = CALL_KEEP;
+    } else if (kind < 9) {
+        call->kind = CALL_RECALL;
+        call->number = pick_edition(script);
+    } else {
+        call->kind = CALL_TIDY;
+    }
 }
 
 /* ---- Other lines ---- */
 
-static void say_crc(struct script *script)
+static void draw_crc(struct script *script, struct call *call)
 {
-    say(script, "crc");
-    for (int bytes = one_in(script, 10) ? between(script, 0, 300) : between(script, 0, 12); bytes > 0; bytes--)
-        say(script, " %02X", between(script, 0, 255));
+    call->kind = CALL_CRC;
+    call->length = (size_t)(one_in(script, 10) ? between(script, 0, 300) : between(script, 0, 12));
+    for (size_t at = 0; at < call->length; at++)
+        call->bytes[at] = (uint8_t)between(script, 0, 255);
 }
 
-static void say_register(struct script *script)
+static void draw_register(struct script *script, struct call *call)
 {
-    say(script, "register %d", one_in(script, 2) ? between(script, 0, 420) : pick_end(script));
+    call->kind = CALL_REGISTER;
+    call->number = (uint32_t)(one_in(script, 2) ? between(script, 0, 420) : pick_end(script));
 }
 
 /* Lines that are no call, or that only just are one. */
@@ -495,9 +512,19 @@ static const char *const junk[] = {
     "tick -0 0250 -0 00 0 01 00 40000 40000 040000 00000000000000000000040000"
 };
 
+static void say(struct script *script, const char *format, ...)
+{
+    va_list values;
+    va_start(values, format);
+    script->length += (size_t)vsnprintf(script->line + script->length, sizeof script->line - script->length,
+                                        format, values);
+    va_end(values);
+}
+
 static void say_junk(struct script *script)
 {
     const int kind = between(script, 0, 11);
+    script->length = 0;
     if (kind == 0) {
         say(script, "%s", PICK(script, ((const char *const[]){"frame 600", "offer", "load"})));
         for (int bytes = between(script, 300, 302); bytes > 0; bytes--)
@@ -521,87 +548,99 @@ static void say_junk(struct script *script)
 /* ---- The script ---- */
 
 /* "Number 21 gives back no usable board: any later call on it, handover included, answers 21" */
-static void say_call_without_board(struct script *script)
+static void draw_call_without_board(struct script *script, struct call *call)
 {
     const int kind = between(script, 0, 9);
     script->unstarted--;
     if (kind == 0)
-        say_handover(script);
+        draw_handover(script, call);
     else if (kind == 4)
-        say_register(script);
+        draw_register(script, call);
     else if (kind == 1)
-        say_tick(script);
+        draw_tick(script, call);
     else if (kind == 2 && script->unstarted < 0)
-        say_start(script);
+        draw_start(script, call);
     else if (kind == 5)
-        say_offer(script);
+        draw_offer(script, call);
     else if (kind == 6)
-        say(script, "fetch %d", make_room(script, 2));
+        draw_fetch(script, call, 2);
     else if (kind == 7)
-        say_save_or_load(script);
+        draw_save_or_load(script, call);
     else if (kind == 8)
-        say_cabinet(script);
+        draw_cabinet(script, call);
     else if (kind == 9)
-        say_class(script);
+        draw_class_call(script, call);
     else
-        say_frame(script);
+        draw_frame(script, call);
 }
 
 /* A tick, now and then the first of a run of quiet ones or of one around OT. */
-static void say_next_tick(struct script *script)
+static void draw_next_tick(struct script *script, struct call *call)
 {
     static const int runs[] = {10, 12, 20, 30, 52, 60, 110, 302, 310};
     if (script->quiet == 0 && one_in(script, 100))
         script->quiet = PICK(script, runs);
     if (script->quiet == 0 && script->around_OT == 0 && one_in(script, 200))
         script->around_OT = between(script, 10, 60);
-    say_tick(script);
+    draw_tick(script, call);
 }
 
-static void say_call(struct script *script)
+static void draw_call_of_any_kind(struct script *script, struct call *call)
 {
     const int kind = between(script, 0, 9999);
     if (script->board.cells == 0) {
-        say_call_without_board(script);
+        draw_call_without_board(script, call);
     } else if (so_many_of(script, script->mix.ticks, 100)) {
-        say_next_tick(script);
+        draw_next_tick(script, call);
     } else if (so_many_of(script, script->mix.saves_and_loads, 1000)) {
-        say_save_or_load(script);
+        draw_save_or_load(script, call);
     } else if (so_many_of(script, script->mix.cabinets, 1000)) {
-        say_cabinet(script);
+        draw_cabinet(script, call);
     } else if (so_many_of(script, script->mix.classes, 1000)) {
-        say_class(script);
+        draw_class_call(script, call);
     } else if (kind < 12) {
-        say_start(script);
+        draw_start(script, call);
     } else if (kind < 12 + script->mix.handovers) {
-        say_handover(script);
+        draw_handover(script, call);
     } else if (kind < 92 + script->mix.handovers) {
-        say_crc(script);
+        draw_crc(script, call);
     } else if (kind < 192 + script->mix.handovers) {
         say_junk(script);
     } else if (kind < 342 + script->mix.handovers) {
-        say_register(script);
+        draw_register(script, call);
     } else if (kind < 2400) {
-        say_offer_or_fetch(script);
+        draw_offer_or_fetch(script, call);
     } else if (kind < (script->quiet > 0 ? 2900 : 4000)) {
-        say_frame(script);
+        draw_frame(script, call);
     } else {
-        say_next_tick(script);
+        draw_next_tick(script, call);
     }
 }
 
 /* Ticks alone, or an app's frames alone but for 50 ticks in each 1,000 calls, which bring events to read. */
-static void say_call_of_one_kind(struct script *script, enum script_kind kind, uint64_t call)
+static void draw_call_of_one_kind(struct script *script, struct call *call)
 {
-    if (call == 0)
-        say(script, "start 8 2000");
-    else if (kind == TICKS || call % 1000 <= 50)
-        say_next_tick(script);
+    if (script->calls == 0)
+        *call = (struct call){.kind = CALL_START, .cells = 8, .pulses_per_km = 2000};
+    else if (script->kind == TICKS || script->calls % 1000 <= 50)
+        draw_next_tick(script, call);
     else
-        say_app_frame(script);
+        draw_app_frame(script, call);
 }
 
-static struct mix mix_of(enum script_kind kind)
+struct call draw_call(struct script *script)
+{
+    struct call call = {.kind = NO_CALL, .cell = script->cell, .bytes = script->bytes};
+    script->lower_case = false;
+    if (script->kind == TICKS || script->kind == FRAMES)
+        draw_call_of_one_kind(script, &call);
+    else
+        draw_call_of_any_kind(script, &call);
+    script->calls++;
+    return call;
+}
+
+struct mix mix_of(enum script_kind kind)
 {
     struct mix mix = {.quick_commands = 12, .saves_and_loads = 15, .cabinets = 10, .cabinet_ticks = 3, .handovers = 58,
                       .charge_ticks = 1, .classes = 20};
@@ -622,19 +661,22 @@ static struct mix mix_of(enum script_kind kind)
     return mix;
 }
 
+void begin_script(struct script *script, uint64_t seed, enum script_kind kind)
+{
+    *script = (struct script){.chance = seed, .kind = kind, .mix = mix_of(kind), .unstarted = 4, .reads_of_events = 12};
+    memset(script->saved, 0xFF, sizeof script->saved);
+    set_up(&script->board, &script->store);
+}
+
 void print_script(uint64_t seed, uint64_t calls, enum script_kind kind)
 {
     static struct script script;
     char ignored[ANSWER_ROOM];
-    script = (struct script){.chance = seed, .mix = mix_of(kind), .unstarted = 4, .reads_of_events = 12};
-    memset(script.saved, 0xFF, sizeof script.saved);
-    set_up(&script.board, &script.store);
-    for (uint64_t call = 0; call < calls; call++) {
-        script.length = 0;
-        if (kind == TICKS || kind == FRAMES)
-            say_call_of_one_kind(&script, kind, call);
-        else
-            say_call(&script);
+    begin_script(&script, seed, kind);
+    for (uint64_t at = 0; at < calls; at++) {
+        const struct call call = draw_call(&script);
+        if (call.kind != NO_CALL)
+            script.length = (size_t)(say_call(script.line, &call, script.lower_case) - script.line);
         answer_line(&script.board, &script.store, script.line, script.length, ignored);
         fwrite(script.line, 1, script.length, stdout);
         fputs(one_in(&script, 50) ? "\r\n" : "\n", stdout);

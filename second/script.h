@@ -1,4 +1,4 @@
-/* What scripts of calls are made with: the script so far, with its own board beside it, and requests made by chance. */
+/* Calls by chance: the script so far, with its own board beside it, and what its calls are made with. */
 #ifndef SCRIPT_H
 #define SCRIPT_H
 
@@ -23,6 +23,7 @@ struct mix {
 
 struct script {
     uint64_t chance;
+    enum script_kind kind;
     struct mix mix;
     struct board board;
     struct store store;
@@ -35,7 +36,11 @@ struct script {
     uint8_t waiting[3 * MOST_BYTES];    /* bytes on the raw line that are still to be offered */
     size_t waiting_length;
     uint8_t saved[AREA_BYTES];  /* the area of the latest save */
-    char line[LONGEST_LINE + 100];
+    uint16_t cell[MOST_CELLS_LENT];     /* room for those of a call */
+    uint8_t bytes[MOST_ROOM];
+    bool lower_case;            /* its line has its bytes so */
+    uint64_t calls;             /* drawn so far */
+    char line[LONGEST_LINE + 100];      /* the latest line that is no call, or only just is one */
     size_t length;
 };
 
@@ -53,6 +58,14 @@ static inline bool so_many_of(struct script *script, int times, int all)
 {
     return times > 0 && between(script, 1, all) <= times;
 }
+
+struct mix mix_of(enum script_kind kind);
+
+void begin_script(struct script *script, uint64_t seed, enum script_kind kind);
+
+/* The next call, into room of the script: whoever draws it makes it on the script's board and store before the next one.
+   NO_CALL: the script's line is no call, or only just is one. */
+struct call draw_call(struct script *script);
 
 /* The end of a range of registers, a number next to one, or one between. */
 int pick_end(struct script *script);

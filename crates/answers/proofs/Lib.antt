@@ -1,3 +1,4 @@
 pub mod Payloads
 pub mod Made
 pub mod Lists
+pub mod Exact

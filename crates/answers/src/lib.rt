@@ -1,4 +1,5 @@
 // What a request is answered, from the pack and the hire that it is asked of, into a lent buffer. Nothing is changed here.
+mod length;
 mod registers;
 
 ghost use mathlib.Core.List.{_∷_, _++_};
@@ -12,6 +13,7 @@ ghost use Rattle.answers.specs.Answers.{bodyOf, takenReply, refusedReply
 ghost use Rattle.answers.specs.Making.{listedWord, wordOf, replyOf};
 use crate::registers::value;
 use hire::Hire;
+pub use length::length_in;
 use pack::Pack;
 use refusals::Left;
 use refusals::Outcome;

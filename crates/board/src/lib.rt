@@ -21,6 +21,7 @@ use pack::Pack;
 use refusals::Outcome;
 use settings::Settings;
 
+#[repr(C)]
 pub struct Board {
     pub pack: Pack, // all that a handover keeps
     pub hire: Hire, // what one rider did and saw

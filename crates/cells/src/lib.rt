@@ -5,6 +5,7 @@ ghost use Rattle.laws.specs.Fold.{bitOf};
 ghost use Rattle.cells.specs.Cells.{keptOf, extremesOf, sumOf, decides, decisionOf, millivoltsOf};
 
 // The lowest and the highest cell.
+#[repr(C)]
 pub struct Extremes {
     pub lowest: u16,
     pub highest: u16,

@@ -17,11 +17,13 @@ pub const CAPACITY: usize = 62;
 pub const AREA: usize = 4 * CAPACITY;
 
 // As it is sent: three time bytes and the event's number, low byte first. All zeros where there is none.
+#[repr(C)]
 pub struct Event {
     pub bytes: u32,
 }
 
 // The places that are used are the last ones: `kept` of them, of which the last `unsent` are new.
+#[repr(C)]
 pub struct Events {
     pub list: [Event; CAPACITY],
     pub kept: u8,

@@ -1,7 +1,7 @@
 -- The loop at the end of a serial line, as crate `port` defines it, loses no byte and says exactly the replies: from a usable board to
 -- which nothing was offered yet, for any reads in a row, its replies are, one after the other, `frame`'s own to the frames of the whole
 -- stream. Why: its turns are a cutting of the stream (RawLine), a turn on a board that holds no frame takes a byte at least, and the bytes
--- told to be a reply are the reply (`port`, Exact). What the code lends to be written no contract ties to it: docs/PROMISES.md.
+-- told to be a reply are the reply (`answers`, Exact). What the code lends to be written no contract ties to it: docs/PROMISES.md.
 -- Assumes nothing.
 use mathlib.Core.Path.{_≡_, refl, sym, ap, ap₂, _∙_, subst, subst⁻¹}
 use mathlib.Core.Bool.{Bool, true, false, _&&_, cond}
@@ -28,8 +28,9 @@ use Rattle.board.specs.State.{usable, withReceiver}
 use Rattle.board.specs.Line.{heldIn, holds}
 use Rattle.board.specs.Calls as calls
 use Rattle.board.specs.Calls.{frame, offer, fetch, replyLent, shape, outcomeOf, seenOf, outcomeIn, bufferAfter, carriedBy}
-use Rattle.port.specs.Port.{lengthIn, bufferOf, turnOf, Served, turnsOf, servedOf}
-use Rattle.port.proofs.Exact.{padded-length, none, exact}
+use Rattle.answers.specs.Length.{lengthIn}
+use Rattle.answers.proofs.Exact.{padded-length, none, exact}
+use Rattle.port.specs.Port.{bufferOf, turnOf, Served, turnsOf, servedOf}
 use Rattle.facts.proofs.RawLine.{Reply, answer, Ran, replied, isReply, runs, is-reply, frame-usable, frame-whole}
 use Rattle.facts.proofs.RawLine.{offered, fetch-whole, fetched-board, not-answered, any-cutting}
 

@@ -22,6 +22,7 @@ pub enum Condition {
 }
 
 // A yes or no for each condition: that it holds, that it recovers, or that it is latched.
+#[repr(C)]
 pub struct Conditions {
     pub uv: bool,
     pub ov: bool,
@@ -33,6 +34,7 @@ pub struct Conditions {
 }
 
 // The ticks that are left to wait.
+#[repr(C)]
 pub struct Waits {
     pub doc: u32,
     pub coc: u32,
@@ -46,11 +48,13 @@ pub struct Numbers {
 }
 
 // Which externals were connected at any tick since OT latched; none while it is not latched. The internal sensor always is.
+#[repr(C)]
 pub struct Remembered {
     pub external1: bool,
     pub external2: bool,
 }
 
+#[repr(C)]
 pub struct Guard {
     pub latched: Conditions,
     pub waits: Waits,

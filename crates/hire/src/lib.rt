@@ -14,6 +14,7 @@ pub use tick::EVENTS;
 pub use tick::events_of;
 
 // What the last tick read, as it was read.
+#[repr(C)]
 pub struct Sensed {
     pub readings: Readings,
     pub cells: [u16; 16], // 0.1 mV
@@ -21,6 +22,7 @@ pub struct Sensed {
     pub live: Live,
 }
 
+#[repr(C)]
 pub struct Hire {
     pub sensed: Sensed,
     pub window: [u16; 10], // the pulses of the last ten ticks, the latest last

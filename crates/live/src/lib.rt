@@ -6,6 +6,7 @@ ghost use Rattle.laws.specs.Fold.{shifted};
 ghost use Rattle.live.specs.Live.{exact, liveOf, noLive, bitsOf, speedOf, speedBitsOf};
 
 // Pack volts and amps, kept together.
+#[repr(C)]
 pub struct Live {
     pub volts: f32,
     pub amps: f32,

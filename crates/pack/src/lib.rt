@@ -10,11 +10,13 @@ use refusals::Refusal;
 use settings::Settings;
 
 // The lifetime, with its tenths.
+#[repr(C)]
 pub struct Clock {
     pub seconds: u32,
     pub tenths: u8,
 }
 
+#[repr(C)]
 pub struct Pack {
     pub settings: Settings,
     pub guard: Guard,

@@ -1,8 +1,6 @@
 // The board at one end of a raw serial line: bytes go in as they come, and what goes out is each frame's reply and nothing else.
 ghost use mathlib.Core.Path.{_≡_};
-ghost use Prim.Native.Nat.{_≤_};
-ghost use lib.ListN.{length};
-ghost use Rattle.port.specs.Port.{lengthBy, lengthIn, Answers, servedOf};
+ghost use Rattle.port.specs.Port.{Answers, servedOf};
 use board::Board;
 use numbers::lesser;
 use streams::put;
@@ -54,38 +52,7 @@ pub fn answer(board: Board, bytes: &[u8], reply: &mut [u8]) -> Turn
     let board = answer.board;
     Turn {
         taken,
-        length: length_in(reply),
+        length: answers::length_in(reply),
         board,
-    }
-}
-
-// How many bytes of a reply buffer are the reply.
-fn length_in(buffer: &[u8]) -> usize
-    ensures { λ r. ⌜ (r ≡ lengthIn (now (buffer .entry))) × (r ≤ length (now (buffer .entry))) ⌝ }
-{
-    if buffer.len() < ROOM {
-        return 0;
-    }
-    if buffer[0] != 0xAA {
-        return 0;
-    }
-    lesser(length_by(buffer[1], buffer[2]), buffer.len())
-}
-
-// A NACK, an ACK, 0x10's, those with no length byte; every other says its own.
-fn length_by(command: u8, pl: u8) -> usize
-    ensures { λ r. ⌜ r ≡ lengthBy command pl ⌝ }
-{
-    match command {
-        0x00 => 6,
-        0x01 => 5,
-        0x10 => 8,
-        0x14 => 8,
-        0x15 => 8,
-        0x16 => 6,
-        0x17 => 6,
-        0x18 => 6,
-        0x19 => 8,
-        _ => 5 + (pl as usize),
     }
 }

@@ -12,6 +12,7 @@ use refusals::Refusal;
 pub const ROOM: usize = 264;
 
 // The first `count` bytes have come of a frame: none, an unfinished one, or a complete one, which is held.
+#[repr(C)]
 pub struct Receiver {
     pub bytes: [u8; ROOM],
     pub count: u16,

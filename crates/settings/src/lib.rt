@@ -6,6 +6,7 @@ use refusals::Outcome;
 use refusals::Refusal;
 
 // The registers of document 01's list, by their numbers.
+#[repr(C)]
 pub struct Settings {
     pub r301: u16, // fully discharged, mV
     pub r303: u16, // early balancing, mV

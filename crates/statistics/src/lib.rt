@@ -8,12 +8,14 @@ use desk::Record;
 use guard::Conditions;
 use readings::Readings;
 
+#[repr(C)]
 pub struct Temperatures {
     pub coldest: i16, // external, 0.1 °C
     pub hottest: i16,
     pub seen: bool, // one was connected
 }
 
+#[repr(C)]
 pub struct Counts {
     pub uv: u16,
     pub ov: u16,
@@ -24,11 +26,13 @@ pub struct Counts {
 }
 
 // Of the mA of each tick, exact up to the largest value.
+#[repr(C)]
 pub struct Sums {
     pub positive: u64,
     pub negative: u64, // as a positive number
 }
 
+#[repr(C)]
 pub struct Statistics {
     pub temperatures: Temperatures,
     pub counts: Counts,

@@ -8,7 +8,8 @@ use Rattle.board.specs.declared.Board.{Board}
 use Rattle.board.specs.declared.Heard.{Heard}
 use Rattle.board.specs.Calls.{offer, fetch, shape, leftOf, hearing, boardAfter, bufferAfter}
 use Rattle.board.specs.Promises.{Leaves}
-use Rattle.port.specs.Port.{lengthIn, bufferOf, Answers}
+use Rattle.answers.specs.Length.{lengthIn}
+use Rattle.port.specs.Port.{bufferOf, Answers}
 use borrow.Author.Needs.{needs}
 use Rattle.port.proofs.answer.Statement.{statement}
 use Rattle.port.proofs.answer.Tie as tie
