@@ -32,7 +32,7 @@ use Rattle.hire.specs.declared.Hire.{Hire}
 use Rattle.answers.specs.Registers.{valueAt}
 use Rattle.answers.specs.Answers.{withRegister, bodyBy, bodyOf, payloadOf, cellsOf, takenReply, acceptedReply, replyBytes, leftReply}
 use Rattle.answers.specs.Answers.{replyBy, askedOutcome, askedReply}
-use Rattle.answers.specs.Making.{countOf, listedWord, wordOf, replyOf}
+use Rattle.answers.specs.Making.{countOf, listedBy, listedWord, wordOf, replyOf}
 use Rattle.answers.proofs.Payloads.{payload-most}
 
 -- ---- words in a row
@@ -70,7 +70,7 @@ events f n =
 -- the words of a list: each address and its register
 list-words : (p : Pack) (h : Hire) (s : List ℕ) (n : ℕ)
     → words le16 (listedWord p h s) 0 (2 * n) ≡ words (withRegister (valueAt p h)) (addressAt s) 0 n
-unfolding listedWord
+unfolding listedBy
 list-words p h s = in-twos (withRegister (valueAt p h)) (addressAt s) (listedWord p h s) (λ i. let (even, odd, low, high) = twos i in
     rw (even, odd, low, high))
 

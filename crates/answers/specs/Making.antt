@@ -3,8 +3,9 @@
 -- Assumes nothing.
 use mathlib.Core.Bool.{cond}
 use mathlib.Core.List.{List, _∷_, _++_}
-use Prim.Native.Nat.{ℕ, _+_, _*_, _/_, _%_}
-use lib.Dec.{eqb}
+use Prim.Native.Nat.{ℕ, _+_, _-_, _*_, _/_, _%_}
+use lib.Dec.{eqb, ltb}
+use lib.ListN.{getD}
 use Rattle.numbers.specs.Numbers.{halfAt}
 use Rattle.events.specs.Events.{keptCount, newCount, keptOf, newOf, eventLongs}
 use Rattle.settings.specs.Settings as settings
@@ -18,14 +19,26 @@ use Rattle.hire.specs.Registers.{temperatureAt}
 use Rattle.answers.specs.Registers.{valueAt}
 use Rattle.answers.specs.Answers.{cellsOf}
 
+-- a register in the rows of the three ranges
+unfoldable pub lookedUp : List ℕ → List ℕ → List ℕ → ℕ → ℕ
+lookedUp readings statistics settings at =
+    cond (ltb at 56) (getD readings at 0)
+    (cond (ltb at 100) 0
+    (cond (ltb at 118) (getD statistics (at - 100) 0)
+    (cond (ltb at 300) 0
+    (cond (ltb at 400) (getD settings (at - 300) 0) 0))))
+
+-- the i-th word of a list: each address, and its register
+unfoldable pub listedBy : (ℕ → ℕ) → List ℕ → ℕ → ℕ
+listedBy value s i = cond (eqb (i % 2) 0) (addressAt s (i / 2)) (value (addressAt s (i / 2)))
+
 module _ (p : Pack) (h : Hire) where
   -- how many words
   abbrev pub countOf : Query → ℕ
   countOf q = wordCount q (newCount (h .events)) (keptCount (h .events)) (cellsOf p)
 
-  -- the i-th word of a list: each address, and its register
-  unfoldable pub listedWord : List ℕ → ℕ → ℕ
-  listedWord s i = cond (eqb (i % 2) 0) (addressAt s (i / 2)) (valueAt p h (addressAt s (i / 2)))
+  abbrev pub listedWord : List ℕ → ℕ → ℕ
+  listedWord s i = listedBy (valueAt p h) s i
 
   -- the i-th word of the reply to a query of the request s
   unfoldable pub wordOf : List ℕ → Query → ℕ → ℕ

@@ -5,13 +5,17 @@ mod registers;
 ghost use mathlib.Core.List.{_∷_, _++_};
 ghost use mathlib.Core.Path.{_≡_};
 ghost use Prim.Native.Nat.{_≤_, min};
-ghost use Rattle.requests.specs.Requests.{requestOf, highFirst};
+ghost use lib.ListN.{length, getD};
+ghost use Rattle.laws.specs.Row.{row};
+ghost use Rattle.requests.specs.Requests.{requestOf};
 ghost use Rattle.numbers.specs.Numbers.{be16, Wrote};
 ghost use Rattle.replies.specs.Replies.{word16, words, sealed, ackOf, Filled};
 ghost use Rattle.writes.specs.Writes.{pairsOf};
 ghost use Rattle.answers.specs.Answers.{bodyOf, takenReply, refusedReply, writeReply, writeOutcome, askedOutcome, askedReply, Replied, Answers};
-ghost use Rattle.answers.specs.Making.{listedWord, wordOf, replyOf};
-use crate::registers::value;
+ghost use Rattle.answers.specs.Making.{countOf, wordOf, replyOf};
+use crate::registers::WORDS;
+use crate::registers::block;
+use crate::registers::listed;
 use hire::Hire;
 pub use length::length_in;
 use pack::Pack;
@@ -136,40 +140,36 @@ fn at_most_16(cells: u8) -> u8
 }
 
 fn send(pack: Pack, hire: Hire, request: &[u8], query: Query, count: u16, reply: &mut [u8])
-    requires { ⌜ count ≤ 127 ⌝ }
+    requires { ⌜ (requestOf (now request) ≡ Request.Read query) × ((count ≡ countOf pack hire query) × (count ≤ 127)) ⌝ }
     ensures { λ _. ⌜ Filled (now (reply .entry)) (sealed (replyOf pack hire (now (request .entry)) query count)) (now (reply .exit)) ⌝ }
 {
+    let words = words_of(pack, hire, request, query, count as u8);
     replies::begin(reply, query.command());
     let from = replies::put_length(reply, query.has_length(), (2 * count) as u8);
-    put_words(pack, hire, request, query, from, count, reply);
+    put_words(&words, query.high_first(), from, count, reply);
     replies::seal(reply, from + 2 * (count as usize));
 }
 
-fn put_words(
-    pack: Pack,
-    hire: Hire,
-    request: &[u8],
-    query: Query,
-    from: usize,
-    count: u16,
-    reply: &mut [u8],
-)
-    requires { ⌜ (from ≤ 3) × (count ≤ 127) ⌝ }
-    ensures { λ _. ⌜ Wrote (now (reply .entry)) from (words (word16 (highFirst query)) (wordOf pack hire (now (request .entry)) query) 0 count) (now (reply .exit)) ⌝ }
+fn put_words(given: &[u16], high_first: bool, from: usize, count: u16, reply: &mut [u8])
+    requires { ⌜ (from ≤ 3) × ((count ≤ 127) × (127 ≤ length (now given))) ⌝ }
+    ensures { λ _. ⌜ Wrote (now (reply .entry)) from (words (word16 «high_first») (λ i. getD (now (given .entry)) i 0) 0 count) (now (reply .exit)) ⌝ }
 {
-    let high_first = query.high_first();
     let mut i: u16 = 0;
     while i < count {
-        let word = word(pack, hire, request, query, i);
-        replies::put_word(reply, from + 2 * (i as usize), high_first, word);
+        replies::put_word(
+            reply,
+            from + 2 * (i as usize),
+            high_first,
+            given[i as usize],
+        );
         i += 1;
     }
 }
 
-// The i-th word of a reply.
-fn word(pack: Pack, hire: Hire, request: &[u8], query: Query, i: u16) -> u16
-    requires { ⌜ i ≤ 127 ⌝ }
-    ensures { λ r. ⌜ r ≡ wordOf pack hire (now (request .entry)) query i ⌝ }
+// All words of a reply at once: a word by itself would be handed the whole hire.
+fn words_of(pack: Pack, hire: Hire, request: &[u8], query: Query, count: u8) -> [u16; WORDS]
+    requires { ⌜ (requestOf (now request) ≡ Request.Read query) × ((count ≡ countOf pack hire query) × (count ≤ 127)) ⌝ }
+    ensures { λ r. ⌜ r ≡ row 127 (wordOf pack hire (now (request .entry)) query) count ⌝ }
 {
     let lifetime = pack.clock.seconds;
     match query {
@@ -177,28 +177,17 @@ fn word(pack: Pack, hire: Hire, request: &[u8], query: Query, i: u16) -> u16
             command: _,
             at,
             count: _,
-        } => value(pack, hire, (at as u32) + (i as u32)),
-        Query::Listed { count: _ } => listed_word(pack, hire, request, i),
+        } => block(pack, hire, at, count),
+        Query::Listed { count: _ } => listed(pack, hire, request, count),
         Query::Bare {
             command: _,
             at,
             count: _,
-        } => value(pack, hire, (at as u32) + (i as u32)),
-        Query::NewEvents => hire.events.new_word(lifetime, i),
-        Query::AllEvents => hire.events.kept_word(lifetime, i),
-        Query::Temperatures => hire.sensed.temperature(i),
-        Query::Cells => value(pack, hire, i as u32),
-        Query::SettingsOf { kind, count: _ } => pack.settings.of_kind(kind).register(300 + i),
+        } => block(pack, hire, at, count),
+        Query::NewEvents => hire.events.new_words(lifetime, count),
+        Query::AllEvents => hire.events.kept_words(lifetime, count),
+        Query::Temperatures => hire.sensed.temperatures(count),
+        Query::Cells => block(pack, hire, 0, count),
+        Query::SettingsOf { kind, count: _ } => pack.settings.of_kind(kind).registers(0, count),
     }
-}
-
-// Of a list each address, and its register.
-fn listed_word(pack: Pack, hire: Hire, request: &[u8], i: u16) -> u16
-    ensures { λ r. ⌜ r ≡ listedWord pack hire (now (request .entry)) i ⌝ }
-{
-    let address = requests::address_at(request, i / 2);
-    if i % 2 == 0 {
-        return address;
-    }
-    value(pack, hire, address as u32)
 }

@@ -9,6 +9,7 @@ use numbers::put_low_first_16;
 use numbers::put_low_first_32;
 use settings::Draft;
 use settings::Settings;
+use settings::put_value;
 
 const TWELVE: [u16; 12] = [301, 303, 308, 315, 316, 317, 318, 319, 320, 332, 334, 335];
 
@@ -29,13 +30,18 @@ pub(crate) fn record_of(edition: u32, settings: Settings) -> [u8; 32]
 pub(crate) fn drafted(draft: Draft, class: [u8; 32]) -> Draft
     ensures { λ r. ⌜ r ≡ draftedOf draft (recalledPairs class) ⌝ }
 {
-    let mut all = draft;
+    let standing = draft.standing;
+    let mut values = draft.values;
     let mut i = 0;
     while i < 12 {
-        all = all.put(register_at(i) as u32, low_first_16(&class, 4 + 2 * i));
+        put_value(
+            &mut values,
+            register_at(i) as u32,
+            low_first_16(&class, 4 + 2 * i),
+        );
         i += 1;
     }
-    all
+    Draft { standing, values }
 }
 
 fn register_at(i: usize) -> u16

@@ -6,6 +6,7 @@ ghost use mathlib.Core.Path.{_≡_};
 ghost use Prim.Native.Nat.{_+_, _-_, _≤_, min};
 ghost use lib.Dec.{eqb};
 ghost use Rattle.events.specs.Events.{capacity, eventAt, timeOf, numberOf, keptCount, newCount, latest, keptOf, newOf, noEvents, addOf, sentOf, placed, eventLongs};
+ghost use Rattle.laws.specs.Row.{row};
 ghost use Rattle.numbers.specs.Numbers.{halfAt};
 use numbers::lesser;
 use refusals::Outcome;
@@ -15,6 +16,9 @@ pub const CAPACITY: usize = 62;
 
 // How many bytes the area has that they are saved into: a record of four for each.
 pub const AREA: usize = 4 * CAPACITY;
+
+// No reply has more words.
+const WORDS: usize = 127;
 
 // As it is sent: three time bytes and the event's number, low byte first. All zeros where there is none.
 #[repr(C)]
@@ -99,25 +103,39 @@ impl Events {
         self.latest_at(self.new_count(), n)
     }
 
-    // The i-th word of what 0x11 sends: the lifetime, then the new events, two words each.
-    pub fn new_word(self, lifetime: u32, i: u16) -> u16
-        ensures { λ r. ⌜ r ≡ halfAt (eventLongs lifetime (newOf self)) i ⌝ }
+    // So many words of what 0x11 sends, the lifetime and then the new events, two words each; zeros after them.
+    pub fn new_words(self, lifetime: u32, count: u8) -> [u16; WORDS]
+        ensures { λ r. ⌜ r ≡ row 127 (halfAt (eventLongs lifetime (newOf self))) (min 127 count) ⌝ }
     {
-        self.word(self.new_count(), lifetime, i)
+        self.words(self.new_count(), lifetime, count)
     }
 
-    // The i-th word of what 0x12 sends: the lifetime, then all that are kept.
-    pub fn kept_word(self, lifetime: u32, i: u16) -> u16
-        ensures { λ r. ⌜ r ≡ halfAt (eventLongs lifetime (keptOf self)) i ⌝ }
+    // So many words of what 0x12 sends: the lifetime, then all that are kept.
+    pub fn kept_words(self, lifetime: u32, count: u8) -> [u16; WORDS]
+        ensures { λ r. ⌜ r ≡ row 127 (halfAt (eventLongs lifetime (keptOf self))) (min 127 count) ⌝ }
     {
-        self.word(self.kept_count(), lifetime, i)
+        self.words(self.kept_count(), lifetime, count)
     }
 
-    fn word(self, count: u8, lifetime: u32, i: u16) -> u16
-        ensures { λ r. ⌜ r ≡ halfAt (eventLongs lifetime (latest count self)) i ⌝ }
+    // The list is looked into where it lies: a word by itself would be handed all of it.
+    fn words(self, kept: u8, lifetime: u32, count: u8) -> [u16; WORDS]
+        ensures { λ r. ⌜ r ≡ row 127 (halfAt (eventLongs lifetime (latest kept self))) (min 127 count) ⌝ }
     {
-        let event = self.latest_at(count, one_less(i / 2));
-        numbers::half(long(lifetime, event, i / 2), i)
+        let list = self.list;
+        let first = from_end(kept);
+        let count = numbers::up_to_127(count);
+        let mut words = [0; WORDS];
+        let mut i: u16 = 0;
+        while i < count {
+            let at = first + (one_less(i / 2) as usize);
+            let mut event = Event { bytes: 0 };
+            if at < CAPACITY {
+                event = list[at];
+            }
+            words[i as usize] = numbers::half(long(lifetime, event, i / 2), i);
+            i += 1;
+        }
+        words
     }
 
     fn latest_at(self, count: u8, n: u16) -> Event

@@ -1,16 +1,35 @@
 // What a hire shows: registers 0 to 55.
 ghost use mathlib.Core.Path.{_≡_};
-ghost use Prim.Native.Nat.{_≤_};
+ghost use Prim.Native.Nat.{_+_, _≤_, min};
 ghost use lib.ListN.{getD};
+ghost use Rattle.laws.specs.Row.{row};
 ghost use Rattle.live.specs.Live.{speedOf, speedBitsOf};
 ghost use Rattle.hire.specs.Registers.{temperatureAt, readingRegister};
 use crate::Hire;
 use crate::Sensed;
 use live::Speed;
 
+// No reply has more.
+const WORDS: usize = 127;
+
 impl Hire {
-    // Registers 0 to 55, on a board with that lifetime and those pulses per km; 0 past them.
-    pub fn register(self, lifetime: u32, per_km: u16, at: u16) -> u16
+    // So many registers from `from` on, as the words of a reply, on a board with that lifetime and those pulses per km; zeros after them.
+    pub fn registers(self, lifetime: u32, per_km: u16, from: u8, count: u8) -> [u16; WORDS]
+        ensures { λ r. ⌜ r ≡ row 127 (λ i. readingRegister self lifetime «per_km» (from + i)) (min 127 count) ⌝ }
+    {
+        let count = numbers::up_to_127(count);
+        let first = from as u16;
+        let mut words = [0; WORDS];
+        let mut i: u16 = 0;
+        while i < count {
+            words[i as usize] = self.register(lifetime, per_km, first + i);
+            i += 1;
+        }
+        words
+    }
+
+    // Registers 0 to 55; 0 past them.
+    fn register(self, lifetime: u32, per_km: u16, at: u16) -> u16
         ensures { λ r. ⌜ r ≡ readingRegister self lifetime «per_km» at ⌝ }
     {
         match at {
@@ -45,8 +64,22 @@ impl Hire {
 }
 
 impl Sensed {
+    // So many temperatures, as the words of a reply; zeros after them.
+    pub fn temperatures(self, count: u8) -> [u16; WORDS]
+        ensures { λ r. ⌜ r ≡ row 127 (temperatureAt self) (min 127 count) ⌝ }
+    {
+        let count = numbers::up_to_127(count);
+        let mut words = [0; WORDS];
+        let mut i: u16 = 0;
+        while i < count {
+            words[i as usize] = self.temperature(i);
+            i += 1;
+        }
+        words
+    }
+
     // Internal, external 1, external 2.
-    pub fn temperature(self, i: u16) -> u16
+    fn temperature(self, i: u16) -> u16
         ensures { λ r. ⌜ r ≡ temperatureAt self i ⌝ }
     {
         match i {

@@ -6,3 +6,4 @@ pub mod Looking
 pub mod Lists
 pub mod Latch
 pub mod Later
+pub mod Rows

@@ -11,6 +11,13 @@ pub fn lesser(a: usize, b: usize) -> usize
     if a < b { a } else { b }
 }
 
+// As many words as a reply can have.
+pub fn up_to_127(count: u8) -> u16
+    ensures { λ r. ⌜ r ≡ min 127 count ⌝ }
+{
+    if count < 127 { count as u16 } else { 127 }
+}
+
 // The two halves of a pair of registers.
 
 pub fn low(n: u32) -> u16

@@ -2,7 +2,7 @@
 use mathlib.Core.Path.{_≡_, refl, sym, ap, ap₂, _∙_}
 use mathlib.Core.Bool.{false}
 use mathlib.Core.List.{List, [], _∷_, _++_, map}
-use Prim.Native.Nat.{ℕ, zero, suc, _+_, _<_, _≤_}
+use Prim.Native.Nat.{ℕ, zero, suc, _+_, _<_, _≤_, min}
 use native.Mathlib.Omega.{arith}
 use lib.ListN.{length, take, drop, set, length-append, length-map, length-take}
 use lib.Seq.{set-split, append-snoc, length-take-le}
@@ -19,6 +19,10 @@ retaken zero l = refl
 retaken (suc k) [] = refl
 retaken (suc k) (x ∷ l) = ap (λ (t : List ℕ). x ∷ t) (retaken k l)
 
+-- a count past the array means all of it
+pub held-length : (l : List ℕ) (count n : ℕ) → n ≡ min count (length l) → n ≡ length (take count l)
+held-length l count n e = e ∙ sym (length-take count l)
+
 -- the first n bytes of the array are what is held
 pub front : (r : Receiver) (n : ℕ) → n ≡ length (heldOf r) → take n (r .bytes) ≡ heldOf r
 front r n e = ap (λ (m : ℕ). take m (r .bytes)) e ∙ retaken (r .count) (r .bytes)
@@ -29,7 +33,7 @@ within r n e = let h = simp length-take at e in omega arith
 pub front-length : (r : Receiver) (n : ℕ) → n ≡ length (heldOf r) → n ≡ length (take n (r .bytes))
 front-length r n e = sym (length-take-le n (r .bytes) (within r n e))
 
-abbrev receiver : List ℕ → ℕ → Receiver
+abbrev pub receiver : List ℕ → ℕ → Receiver
 receiver l n = record { bytes = l; count = n }
 
 -- a byte stored at the first place after what is held

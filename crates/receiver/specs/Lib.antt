@@ -1,3 +1,4 @@
 pub mod Receiver
 pub mod Line
 pub mod Heard
+pub mod Taking

@@ -3,8 +3,10 @@
 ghost use mathlib.Core.Bool.{false};
 ghost use mathlib.Core.Path.{_≡_};
 ghost use Prim.Native.Nat.{_≤_, _<_};
-ghost use lib.ListN.{length};
-ghost use Rattle.receiver.specs.Receiver.{heldOf, isHeld, withByte, noBytes, offeredOf};
+ghost use lib.ListN.{length, take};
+ghost use Rattle.receiver.specs.Receiver.{heldOf, complete, isHeld, noBytes, offeredOf};
+ghost use Rattle.receiver.specs.Taking.{Takes};
+use numbers::lesser;
 use refusals::Outcome;
 use refusals::Refusal;
 
@@ -47,23 +49,24 @@ impl Receiver {
                 receiver: self,
             };
         }
-        let mut receiver = self;
+        let mut held = self.bytes;
+        let mut count = self.count;
         let mut taken = 0;
         while taken < bytes.len() {
-            if receiver.is_held() {
+            if is_complete(&held, count) {
                 return Offered {
                     outcome: Outcome::Done,
                     taken,
-                    receiver,
+                    receiver: Receiver { bytes: held, count },
                 };
             }
-            receiver = receiver.with_byte(bytes[taken]);
+            count = take_byte(&mut held, count, bytes[taken]);
             taken += 1;
         }
         Offered {
             outcome: Outcome::Done,
             taken,
-            receiver,
+            receiver: Receiver { bytes: held, count },
         }
     }
 
@@ -72,8 +75,7 @@ impl Receiver {
         ensures { λ r. ⌜ (r ≡ isHeld self) × (r ≡ false → length (heldOf self) < 264) ⌝ }
     {
         let bytes = self.bytes;
-        let count = self.length();
-        requests::length_of(&bytes[..count]) <= count
+        is_complete(&bytes, self.count)
     }
 
     // How many bytes have come of a frame.
@@ -83,21 +85,24 @@ impl Receiver {
         let count = self.count as usize;
         if count < ROOM { count } else { ROOM }
     }
+}
 
-    // One byte more; it is skipped where none has come and it begins no frame.
-    fn with_byte(self, byte: u8) -> Receiver
-        requires { ⌜ length (heldOf self) < 264 ⌝ }
-        ensures { λ r. ⌜ r ≡ withByte self byte ⌝ }
-    {
-        let count = self.length();
-        if (count == 0) & (byte != 0xAA) {
-            return self;
-        }
-        let mut bytes = self.bytes;
-        bytes[count] = byte;
-        Receiver {
-            bytes,
-            count: (count + 1) as u16,
-        }
+// The first `count` of these bytes are a complete frame.
+fn is_complete(bytes: &[u8], count: u16) -> bool
+    ensures { λ r. ⌜ (r ≡ complete (take count (now (bytes .entry)))) × (r ≡ false → length (take count (now (bytes .entry))) < 264) ⌝ }
+{
+    let n = lesser(count as usize, bytes.len());
+    requests::length_of(&bytes[..n]) <= n
+}
+
+// One byte more, and how many have then come; it is skipped where none has come and it begins no frame.
+fn take_byte(held: &mut [u8], count: u16, byte: u8) -> u16
+    requires { ⌜ (length (take count (now held)) < 264) × (length (now held) ≡ 264) ⌝ }
+    ensures { λ r. ⌜ Takes (now (held .entry)) count byte r (now (held .exit)) ⌝ }
+{
+    if (count == 0) & (byte != 0xAA) {
+        return count;
     }
+    held[count as usize] = byte;
+    count + 1
 }

@@ -24,7 +24,7 @@ use Rattle.signed.proofs.Read.{read}
 use Rattle.settings.specs.declared.Settings.{Settings}
 use Rattle.settings.specs.declared.Draft.{Draft}
 use Rattle.settings.specs.Settings.{minimum, maximum, registerOf, upFrom, registers, valuesOf, valueIn, settingsOf, fits, isOut}
-use Rattle.settings.specs.Settings.{inRange, ordered, judgedOf, draftOf, putOf, outcomeOf, settingsIn, standingOf, writtenOf}
+use Rattle.settings.specs.Settings.{inRange, ordered, judgedOf, draftOf, putOf, Put, outcomeOf, settingsIn, standingOf, writtenOf}
 use Rattle.settings.proofs.Hundred.{values-at}
 
 -- ---- a register that is put
@@ -122,6 +122,16 @@ module _ (d : Draft) (at value : ℕ) (hundred : Hundred d) where
 pub put-standing : (d : Draft) (at value : ℕ) → putOf d at value .standing ≡ d .standing
 unfolding putOf
 put-standing d at value = refl
+
+-- a draft of what stands and of values that are put one by one
+abbrev pub holding : Settings → List ℕ → Draft
+holding standing values = record { standing = standing; values = values }
+
+pub put-among : {d : Draft} {standing : Settings} {values after : List ℕ} {at value : ℕ} → Put values at value after
+    → holding standing values ≡ d → holding standing after ≡ putOf d at value
+unfolding putOf
+put-among {standing = standing} {at = at} {value = value} p e =
+    ap (holding standing) (p .put) ∙ ap (λ (draft : Draft). putOf draft at value) e
 
 -- ---- a draft begun
 

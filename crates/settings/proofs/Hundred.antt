@@ -1,17 +1,18 @@
 -- The hundred values by the numbers of their registers, and the row of those out of range: each register from the lowest on is the one
 -- found, or is passed by. Assumes nothing.
 use mathlib.Core.Path.{_≡_, refl, ap, _∙_}
-use mathlib.Core.Bool.{Bool, true, false, not, cond}
-use mathlib.Core.List.{List, _++_, map}
+use mathlib.Core.Bool.{Bool, true, false, _&&_, not, cond}
+use mathlib.Core.List.{List, map}
 use Prim.Native.Nat.{ℕ, zero, suc, _+_, _-_, _<_}
 use native.Mathlib.Nat.{not-suc-le-zero}
 use native.Mathlib.Omega.{arith}
-use lib.ListN.{length, getD, take, replicate}
+use lib.ListN.{length, getD}
+use lib.Signed.{leZ}
 use Rattle.laws.specs.History.{any}
 use Rattle.refusals.specs.declared.Refusal.{Refusal}
 use Rattle.refusals.specs.declared.Refusal.the-variants.{OutOfRange}
 use Rattle.settings.specs.declared.Settings.{Settings}
-use Rattle.settings.specs.Settings.{registerOf, upFrom, registers, valuesOf, fits, isOut, lowest}
+use Rattle.settings.specs.Settings.{minimum, maximum, registerOf, upFrom, registers, valuesOf, meantBy, fits, isOut, lowest}
 
 -- what is told of each register from `at` on
 mapped : (f : ℕ → ℕ) (at n i : ℕ) → i < n → getD (map f (upFrom at n)) i 0 ≡ f (at + i)
@@ -23,14 +24,21 @@ pub values-length : (s : Settings) → length (valuesOf s) ≡ 100
 unfolding valuesOf registers
 values-length s = refl
 
--- a hundred, and then no zeros
-pub values-whole : (s : Settings) → take 100 (valuesOf s) ++ replicate (100 - length (valuesOf s)) 0 ≡ valuesOf s
-unfolding valuesOf registers
-values-whole s = refl
-
 pub values-at : (s : Settings) (i : ℕ) → i < 100 → getD (valuesOf s) i 0 ≡ registerOf s (300 + i)
 unfolding valuesOf registers
 values-at s i h = mapped (registerOf s) 300 100 i h
+
+-- a value against the least and the greatest at its register's place
+pub fits-by : {least greatest : List ℕ} (i value : ℕ) {t : Bool} → i < 100 → least ≡ valuesOf minimum → greatest ≡ valuesOf maximum
+    → t
+    ≡ leZ (meantBy (300 + i) (getD least i 0)) (meantBy (300 + i) value)
+    && leZ (meantBy (300 + i) value) (meantBy (300 + i) (getD greatest i 0))
+    → fits (300 + i) value ≡ t
+unfolding fits
+fits-by {least} {greatest} i value h l g e =
+    let low : getD least i 0 ≡ registerOf minimum (300 + i) = ap (λ (values : List ℕ). getD values i 0) l ∙ values-at minimum i h in
+    let high : getD greatest i 0 ≡ registerOf maximum (300 + i) = ap (λ (values : List ℕ). getD values i 0) g ∙ values-at maximum i h in
+    rw (e, low, high)
 
 -- the row of the registers that are out of their range, of some of them
 abbrev pub rangeRow : List ℕ → List ℕ → Refusal × Bool

@@ -1,5 +1,6 @@
 -- The twelve settings, their ranges, and a write that is taken whole or not at all.
 -- Assumes nothing.
+use mathlib.Core.Path.{_≡_}
 use mathlib.Core.Bool.{Bool, _&&_, not, cond}
 use mathlib.Core.List.{List, [], _∷_, map}
 use Prim.Native.Nat.{ℕ, zero, suc, _-_}
@@ -170,12 +171,15 @@ abbrev pub draftOf : Settings → Draft
 draftOf s = record { standing = s; values = valuesOf s }
 
 -- one register of it: a repeated address takes the later value. A register outside 300 to 399 is no setting
+abbrev pub putIn : List ℕ → ℕ → ℕ → List ℕ
+putIn values at value = cond (leb 300 at && leb at 399) (set values (at - 300) value) values
+
 unfoldable pub putOf : Draft → ℕ → ℕ → Draft
-putOf d at value =
-    record {
-      standing = d .standing;
-      values = cond (leb 300 at && leb at 399) (set (d .values) (at - 300) value) (d .values);
-    }
+putOf d at value = record { standing = d .standing; values = putIn (d .values) at value }
+
+-- `after` is `before` with one register put
+pub record Put (before : List ℕ) (at value : ℕ) (after : List ℕ) : Type 0 where
+  pub put : after ≡ putIn before at value
 
 -- what it is judged to be, by its final values alone, and the settings that it would leave
 abbrev pub outcomeOf : Draft → Outcome

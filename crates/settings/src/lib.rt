@@ -1,9 +1,16 @@
 // The twelve settings: their values by register, their ranges, and a write that is taken whole or not at all.
 ghost use mathlib.Core.Path.{_≡_};
-ghost use Rattle.settings.specs.Settings.{factory, ofKind, registerOf, valuesOf, settingsOf, meantBy, fits, ordered};
-ghost use Rattle.settings.specs.Settings.{judgedOf, draftOf, putOf, standingOf, writtenOf};
+ghost use mathlib.Core.Bool.{_&&_};
+ghost use Prim.Native.Nat.{_+_, min};
+ghost use lib.Signed.{leZ};
+ghost use Rattle.laws.specs.Row.{row};
+ghost use Rattle.settings.specs.Settings.{factory, ofKind, registerOf, valuesOf, settingsOf, meantBy, ordered};
+ghost use Rattle.settings.specs.Settings.{judgedOf, draftOf, Put, standingOf, writtenOf};
 use refusals::Outcome;
 use refusals::Refusal;
+
+// No reply has more.
+const WORDS: usize = 127;
 
 // The registers of document 01's list, by their numbers.
 #[repr(C)]
@@ -127,6 +134,21 @@ impl Settings {
         }
     }
 
+    // So many registers from 300 + `from` on, as the words of a reply; zeros after them.
+    pub fn registers(self, from: u8, count: u8) -> [u16; WORDS]
+        ensures { λ r. ⌜ r ≡ row 127 (λ i. registerOf self (300 + from + i)) (min 127 count) ⌝ }
+    {
+        let count = numbers::up_to_127(count);
+        let first = 300 + (from as u16);
+        let mut words = [0; WORDS];
+        let mut i: u16 = 0;
+        while i < count {
+            words[i as usize] = self.register(first + i);
+            i += 1;
+        }
+        words
+    }
+
     // A whole set of settings is judged as a write of it would be.
     pub fn judged(self) -> Outcome
         ensures { λ r. ⌜ r ≡ judgedOf (valuesOf self) ⌝ }
@@ -149,11 +171,18 @@ impl Settings {
         ensures { λ r. ⌜ r ≡ valuesOf self ⌝ }
     {
         let mut values = [0; 100];
-        let mut i: u16 = 0;
-        while i < 100 {
-            values[i as usize] = self.register(300 + i);
-            i += 1;
-        }
+        values[1] = self.r301;
+        values[3] = self.r303;
+        values[8] = self.r308;
+        values[15] = self.r315;
+        values[16] = self.r316;
+        values[17] = self.r317;
+        values[18] = self.r318;
+        values[19] = self.r319;
+        values[20] = signed::to_bits(self.r320);
+        values[32] = self.r332;
+        values[34] = self.r334;
+        values[35] = self.r335;
         values
     }
 
@@ -185,18 +214,6 @@ impl Settings {
 }
 
 impl Draft {
-    // One register of the write; the later value where it was put before. One outside 300 to 399 is no setting.
-    pub fn put(self, at: u32, value: u16) -> Draft
-        ensures { λ r. ⌜ r ≡ putOf self at value ⌝ }
-    {
-        let standing = self.standing;
-        let mut values = self.values;
-        if (300 <= at) & (at <= 399) {
-            values[(at - 300) as usize] = value;
-        }
-        Draft { standing, values }
-    }
-
     // The write ends: it is taken whole or not at all.
     pub fn finish(self) -> Written
         ensures { λ r. ⌜ r ≡ writtenOf self ⌝ }
@@ -220,13 +237,26 @@ impl Draft {
     }
 }
 
+// One register of a write put among the values of registers 300 to 399, in place; the later value where it was put before.
+// One outside 300 to 399 is no setting.
+pub fn put_value(values: &mut [u16; 100], at: u32, value: u16)
+    ensures { λ _. ⌜ Put (now (values .entry)) at value (now (values .exit)) ⌝ }
+{
+    if (300 <= at) & (at <= 399) {
+        values[(at - 300) as usize] = value;
+    }
+}
+
 // The one judgement: the lowest register out of its range, then the ordering rule.
 fn judged(values: [u16; 100]) -> Outcome
     ensures { λ r. ⌜ r ≡ judgedOf values ⌝ }
 {
+    let least = Settings::MINIMUM.values();
+    let greatest = Settings::MAXIMUM.values();
     let mut i: u16 = 0;
     while i < 100 {
-        if !is_in_range(300 + i, values[i as usize]) {
+        let place = i as usize;
+        if !is_in_range(300 + i, values[place], least[place], greatest[place]) {
             return Outcome::Refused(Refusal::OutOfRange(300 + i));
         }
         i += 1;
@@ -238,12 +268,12 @@ fn judged(values: [u16; 100]) -> Outcome
     }
 }
 
-// Of an unlisted register, least and greatest are 0.
-fn is_in_range(at: u16, value: u16) -> bool
-    ensures { λ r. ⌜ r ≡ fits at value ⌝ }
+// A register's value lies from its least to its greatest; both are 0 for an unlisted one.
+fn is_in_range(at: u16, value: u16, least: u16, greatest: u16) -> bool
+    ensures { λ r. ⌜ r ≡ leZ (meantBy at least) (meantBy at value) && leZ (meantBy at value) (meantBy at greatest) ⌝ }
 {
-    let least = meant_by(at, Settings::MINIMUM.register(at));
-    let greatest = meant_by(at, Settings::MAXIMUM.register(at));
+    let least = meant_by(at, least);
+    let greatest = meant_by(at, greatest);
     let number = meant_by(at, value);
     (least <= number) & (number <= greatest)
 }

@@ -1,12 +1,16 @@
 // What is counted since the last clear: distance, largest currents and cell difference, latchings, temperatures, and the sums of the current.
 ghost use mathlib.Core.Path.{_≡_};
 ghost use Prim.Native.Nat.{_+_, _-_, _≤_, min, max};
+ghost use Rattle.laws.specs.Row.{row};
 ghost use Rattle.statistics.specs.Statistics.{riddenPulses, distanceOf, hundreds, countOf, countsOf, withExternal, temperaturesShown};
 ghost use Rattle.statistics.specs.Statistics.{summedOf, riddenOf, countedOf, clearedAt, registerOf, latchingsOf, billOf};
 use cells::Extremes;
 use desk::Record;
 use guard::Conditions;
 use readings::Readings;
+
+// No reply has more words.
+const WORDS: usize = 127;
 
 #[repr(C)]
 pub struct Temperatures {
@@ -138,8 +142,23 @@ impl Statistics {
         }
     }
 
+    // So many registers from 100 + `from` on, as the words of a reply; zeros after them.
+    pub fn registers(self, per_km: u16, from: u8, count: u8) -> [u16; WORDS]
+        ensures { λ r. ⌜ r ≡ row 127 (λ i. registerOf self «per_km» (100 + from + i)) (min 127 count) ⌝ }
+    {
+        let count = numbers::up_to_127(count);
+        let first = 100 + (from as u16);
+        let mut words = [0; WORDS];
+        let mut i: u16 = 0;
+        while i < count {
+            words[i as usize] = self.register(per_km, first + i);
+            i += 1;
+        }
+        words
+    }
+
     // A register of 100 to 117; an unlisted one reads 0.
-    pub fn register(self, per_km: u16, at: u16) -> u16
+    fn register(self, per_km: u16, at: u16) -> u16
         ensures { λ r. ⌜ r ≡ registerOf self «per_km» at ⌝ }
     {
         match at {

@@ -9,6 +9,7 @@ use numbers::low_first_16;
 use settings::Draft;
 use settings::Settings;
 use settings::Written;
+use settings::put_value;
 
 // How a write has its registers: 0x10's block, high byte first; 0x0B's block; 0x0D's list of pairs.
 pub enum Form {
@@ -107,14 +108,15 @@ pub fn written(settings: Settings, bytes: &[u8], form: Form, count: u8) -> Writt
 fn drafted(draft: Draft, bytes: &[u8], form: Form, count: u8) -> Draft
     ensures { λ r. ⌜ r ≡ draftedOf draft (pairsOf form (now (bytes .entry)) count) ⌝ }
 {
-    let mut all = draft;
+    let standing = draft.standing;
+    let mut values = draft.values;
     let mut i: u16 = 0;
     while i < (count as u16) {
         let pair = pair_at(form, bytes, i);
-        all = all.put(pair.at, pair.value);
+        put_value(&mut values, pair.at, pair.value);
         i += 1;
     }
-    all
+    Draft { standing, values }
 }
 
 // The i-th register of a write.

@@ -36,7 +36,7 @@ send-requires c κs =
     let count = c .before in
     let entry = count .before .before .before .before .before .before .before in
     let args = entry .args in
-    few-words (args .pack) (args .hire) (now (args .request)) (args .query) (told count) (entry .pre)
+    (entry .pre, (told count, few-words (args .pack) (args .hire) (now (args .request)) (args .query) (told count) (entry .pre)))
 
 same-length : tie.Need-same-length
 same-length c = search needs

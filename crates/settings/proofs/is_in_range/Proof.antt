@@ -1,21 +1,14 @@
 -- Least, value and greatest are compared as the numbers that they mean. Assumes nothing.
-use mathlib.Core.Path.{ap₂, _∙_, ap}
+use mathlib.Core.Path.{ap₂}
 use mathlib.Core.Bool.{_&&_}
 use lib.Signed.{leZ}
 use Rattle.signed.proofs.Compared.{at}
-use Rattle.settings.specs.Settings.{fits, meantBy}
 use borrow.Author.Needs.{needs, sfits-of}
 use Rattle.settings.proofs.is_in_range.Statement.{statement}
 use Rattle.settings.proofs.is_in_range.Tie as tie
 
-register-requires : tie.Need-register-requires
-register-requires c κs = search needs
-
 meant-by-requires : tie.Need-meant-by-requires
 meant-by-requires c κs = search needs
-
-register-requires-2 : tie.Need-register-requires-2
-register-requires-2 c κs = search needs
 
 meant-by-requires-2 : tie.Need-meant-by-requires-2
 meant-by-requires-2 c κs = search needs
@@ -24,24 +17,12 @@ meant-by-requires-3 : tie.Need-meant-by-requires-3
 meant-by-requires-3 c κs = search needs
 
 returns : tie.Need-returns
-unfolding fits
 returns c =
     let greatest = c .before in
-    let least = greatest .before .before in
-    let register = greatest .before .before .before .before .args .at in
-    let low = least .meant-by .ensures ∙ ap (meantBy register) (least .before .register .ensures) in
-    let high = greatest .meant-by2 .ensures ∙ ap (meantBy register) (greatest .before .register2 .ensures) in
+    let least = greatest .before in
     ap₂ _&&_
-    (at leZ low (c .meant-by3 .ensures) (sfits-of (least .meant-by .ok)) (sfits-of (c .meant-by3 .ok)))
-    (at leZ (c .meant-by3 .ensures) high (sfits-of (c .meant-by3 .ok)) (sfits-of (greatest .meant-by2 .ok)))
+    (at leZ (least .meant-by .ensures) (c .meant-by3 .ensures) (sfits-of (least .meant-by .ok)) (sfits-of (c .meant-by3 .ok)))
+    (at leZ (c .meant-by3 .ensures) (greatest .meant-by2 .ensures) (sfits-of (c .meant-by3 .ok)) (sfits-of (greatest .meant-by2 .ok)))
 
 pub is-in-range-spec : {M : Type 1} → statement M
-is-in-range-spec =
-    tie.close
-    (tie.spec
-    register-requires
-    meant-by-requires
-    register-requires-2
-    meant-by-requires-2
-    meant-by-requires-3
-    returns)
+is-in-range-spec = tie.close (tie.spec meant-by-requires meant-by-requires-2 meant-by-requires-3 returns)

@@ -4,22 +4,29 @@ use mathlib.Core.Bool.{Bool, true, not, cond}
 use mathlib.Core.List.{List, [], _∷_}
 use Prim.Native.Nat.{ℕ, _+_, _-_, _≤_}
 use native.Mathlib.Omega.{arith}
+use lib.ListN.{getD}
 use borrow.Author.Tests.{not-true, not-false}
 use Rattle.refusals.specs.declared.Refusal.{Refusal}
 use Rattle.refusals.specs.declared.Refusal.the-variants.{OutOfRange, OutOfOrder}
 use Rattle.refusals.specs.declared.Outcome.the-variants.{Done, Refused}
 use Rattle.refusals.specs.Refusals.{first}
-use Rattle.settings.specs.Settings.{registers, upFrom, judgedOf, ordered, settingsOf}
-use Rattle.settings.proofs.Hundred.{rangeRow, onFrom, tested}
+use Rattle.settings.specs.Settings.{registers, upFrom, fits, judgedOf, ordered, settingsOf}
+use Rattle.settings.proofs.Hundred.{fits-by, rangeRow, onFrom, tested}
 use borrow.Author.Needs.{needs}
 use Rattle.settings.proofs.judged.Statement.{statement}
 use Rattle.settings.proofs.judged.Tie as tie
 
 abbrev Inv-loop : tie.InvT-loop
-Inv-loop values i₀ i = (i ≤ 100) × (rangeRow values (onFrom i) ≡ rangeRow values registers)
+Inv-loop values least greatest i₀ i = (i ≤ 100) × (rangeRow values (onFrom i) ≡ rangeRow values registers)
 
 abbrev μ-loop : tie.MeasureT-loop
-μ-loop values i₀ i = 100 - i
+μ-loop values least greatest i₀ i = 100 - i
+
+values-requires : tie.Need-values-requires Inv-loop μ-loop
+values-requires c κs = search needs
+
+values-requires-2 : tie.Need-values-requires-2 Inv-loop μ-loop
+values-requires-2 c κs = search needs
 
 loop-holds : tie.Need-loop-holds Inv-loop μ-loop
 unfolding registers
@@ -39,11 +46,11 @@ none-left values i past e o =
     (ap (λ (row : Refusal × Bool). first (row ∷ (OutOfOrder, not (ordered (settingsOf values))) ∷ []))
     (ap (λ (n : ℕ). rangeRow values (upFrom (300 + i) n)) (sym none) ∙ e))
 
+cast-place : tie.Need-cast-place Inv-loop μ-loop
+cast-place c = search needs
+
 add-is-in-range : tie.Need-add-is-in-range Inv-loop μ-loop
 add-is-in-range c = search needs
-
-cast-is-in-range : tie.Need-cast-is-in-range Inv-loop μ-loop
-cast-is-in-range c = search needs
 
 mul-is-in-range : tie.Need-mul-is-in-range Inv-loop μ-loop
 mul-is-in-range c = search needs
@@ -51,18 +58,39 @@ mul-is-in-range c = search needs
 array-read-is-in-range : tie.Need-array-read-is-in-range Inv-loop μ-loop
 array-read-is-in-range c = search needs
 
+mul-is-in-range-2 : tie.Need-mul-is-in-range-2 Inv-loop μ-loop
+mul-is-in-range-2 c = search needs
+
+array-read-is-in-range-2 : tie.Need-array-read-is-in-range-2 Inv-loop μ-loop
+array-read-is-in-range-2 c = search needs
+
+mul-is-in-range-3 : tie.Need-mul-is-in-range-3 Inv-loop μ-loop
+mul-is-in-range-3 c = search needs
+
+array-read-is-in-range-3 : tie.Need-array-read-is-in-range-3 Inv-loop μ-loop
+array-read-is-in-range-3 c = search needs
+
 is-in-range-requires : tie.Need-is-in-range-requires Inv-loop μ-loop
 is-in-range-requires c κs = search needs
 
-add-t12 : tie.Need-add-t12 Inv-loop μ-loop
-add-t12 c = search needs
+add-t24 : tie.Need-add-t24 Inv-loop μ-loop
+add-t24 c = search needs
+
+-- least and greatest at the place of a register
+ranged : (c : tie.After-is-in-range Inv-loop μ-loop)
+    → fits (300 + c .before .before .loop .i) (getD (c .before .before .before .before .before .args .t1) (c .before .before .loop .i) 0)
+    ≡ c .is-in-range .result
+ranged c =
+    let turn = c .before .before in
+    let greatest = turn .before in
+    fits-by (turn .loop .i) _ (omega arith) (greatest .before .values .ensures) (greatest .values2 .ensures) (c .is-in-range .ensures)
 
 returns : tie.Need-returns Inv-loop μ-loop
 returns c =
     let test = c .before in
     let turn = test .before .before in
-    let fitting = sym (test .is-in-range .ensures) ∙ not-true _ (c .if1 .taken) in
-    let values = turn .before .args .t1 in
+    let fitting = ranged test ∙ not-true _ (c .if1 .taken) in
+    let values = turn .before .before .before .args .t1 in
     found values (300 + turn .loop .i) (sym (tested values (turn .loop .i) (omega arith) fitting) ∙ turn .loop .inv .1)
 
 add-i : tie.Need-add-i Inv-loop μ-loop
@@ -75,8 +103,8 @@ loop-again : tie.Need-loop-again Inv-loop μ-loop
 loop-again c =
     let test = c .before in
     let turn = test .before .before in
-    let fitting = sym (test .is-in-range .ensures) ∙ not-false _ (c .if1 .left) in
-    (search needs, sym (tested (turn .before .args .t1) (turn .loop .i) (omega arith) fitting) ∙ turn .loop .inv .1)
+    let fitting = ranged test ∙ not-false _ (c .if1 .left) in
+    (search needs, sym (tested (turn .before .before .before .args .t1) (turn .loop .i) (omega arith) fitting) ∙ turn .loop .inv .1)
 
 of-requires : tie.Need-of-requires Inv-loop μ-loop
 of-requires c κs = search needs
@@ -89,14 +117,14 @@ returns-2 c =
     let order = c .before in
     let turn = order .before .before .before in
     let o = ap ordered (sym (order .before .of .ensures)) ∙ sym (order .ordered .ensures) ∙ c .if2 .taken in
-    none-left (turn .before .args .t1) (turn .loop .i) (omega arith) (turn .loop .inv .1) o
+    none-left (turn .before .before .before .args .t1) (turn .loop .i) (omega arith) (turn .loop .inv .1) o
 
 returns-3 : tie.Need-returns-3 Inv-loop μ-loop
 returns-3 c =
     let order = c .before in
     let turn = order .before .before .before in
     let o = ap ordered (sym (order .before .of .ensures)) ∙ sym (order .ordered .ensures) ∙ c .if2 .left in
-    none-left (turn .before .args .t1) (turn .loop .i) (omega arith) (turn .loop .inv .1) o
+    none-left (turn .before .before .before .args .t1) (turn .loop .i) (omega arith) (turn .loop .inv .1) o
 
 pub judged-spec : {M : Type 1} → statement M
 judged-spec =
@@ -104,13 +132,19 @@ judged-spec =
     (tie.spec
     Inv-loop
     μ-loop
+    values-requires
+    values-requires-2
     loop-holds
+    cast-place
     add-is-in-range
-    cast-is-in-range
     mul-is-in-range
     array-read-is-in-range
+    mul-is-in-range-2
+    array-read-is-in-range-2
+    mul-is-in-range-3
+    array-read-is-in-range-3
     is-in-range-requires
-    add-t12
+    add-t24
     returns
     add-i
     loop-less

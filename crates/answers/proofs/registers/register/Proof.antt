@@ -1,7 +1,9 @@
 -- In a range its value is what is shown, and outside nothing is. Assumes nothing.
 use mathlib.Core.Bool.{Bool, true, false, _||_, cond}
-use mathlib.Core.Path.{_≡_, refl}
-use Prim.Native.Nat.{ℕ}
+use mathlib.Core.Path.{_≡_, refl, sym, _∙_}
+use native.Mathlib.Nat.{add-zero}
+use Rattle.answers.proofs.Blocks.{one-is-block, first-of}
+use Prim.Native.Nat.{ℕ, _+_}
 use Rattle.settings.specs.Settings as settings
 use Rattle.statistics.specs.Statistics as statistics
 use Rattle.hire.specs.Registers.{readingRegister}
@@ -33,13 +35,16 @@ shown p h at = by-value (inReadings at) (inStatistics at) (inSettings at) (readi
 is-shown-requires : tie.Need-is-shown-requires
 is-shown-requires c κs = search needs
 
-value-requires : tie.Need-value-requires
-value-requires c κs = search needs
+block-requires : tie.Need-block-requires
+block-requires c κs = one-is-block (c .before .before .args .at) (sym (c .before .is-shown .ensures) ∙ c .if1 .taken)
+
+array-read : tie.Need-array-read-t9
+array-read c = search needs
 
 returns : tie.Need-returns
 returns c =
     let args = c .before .before .before .args in
-    rw (shown (args .pack) (args .hire) (args .at), ← c .before .before .is-shown .ensures, c .before .if1 .taken, c .value .ensures)
+    rw (shown (args .pack) (args .hire) (args .at), ← c .before .before .is-shown .ensures, c .before .if1 .taken, first-of (λ i. valueAt (args .pack) (args .hire) (args .at + i)) (c .block .ensures), add-zero)
 
 returns-2 : tie.Need-returns-2
 returns-2 c =
@@ -47,4 +52,4 @@ returns-2 c =
     rw (shown (args .pack) (args .hire) (args .at), ← c .before .is-shown .ensures, c .if1 .left)
 
 pub register-spec : {M : Type 1} → statement M
-register-spec = tie.close (tie.spec is-shown-requires value-requires returns returns-2)
+register-spec = tie.close (tie.spec is-shown-requires block-requires array-read returns returns-2)

@@ -5,15 +5,17 @@ use native.Mathlib.Numerals.{add-one}
 use native.Mathlib.Omega.{arith}
 use Rattle.writes.specs.Writes.{draftedOf}
 use Rattle.classes.specs.Store.{pairsIn}
+use Rattle.settings.proofs.Drafts.{holding, put-among}
 use borrow.Author.Needs.{needs}
 use Rattle.classes.proofs.class.drafted.Statement.{statement}
 use Rattle.classes.proofs.class.drafted.Tie as tie
 
 abbrev Inv-loop : tie.InvT-loop
-Inv-loop class all₀ i₀ all i = (i ≤ 12) × (all ≡ draftedOf all₀ (pairsIn class i))
+Inv-loop class standing values₀ i₀ values i =
+    (i ≤ 12) × (holding standing values ≡ draftedOf (holding standing values₀) (pairsIn class i))
 
 abbrev μ-loop : tie.MeasureT-loop
-μ-loop class all₀ i₀ all i = 12 - i
+μ-loop class standing values₀ i₀ values i = 12 - i
 
 loop-holds : tie.Need-loop-holds Inv-loop μ-loop
 unfolding pairsIn draftedOf
@@ -22,8 +24,8 @@ loop-holds c = (search needs, refl)
 register-at-requires : tie.Need-register-at-requires Inv-loop μ-loop
 register-at-requires c κs = search needs
 
-cast-put : tie.Need-cast-put Inv-loop μ-loop
-cast-put c = search needs
+cast-put-value : tie.Need-cast-put-value Inv-loop μ-loop
+cast-put-value c = search needs
 
 slice-aggregate-low-first-16 : tie.Need-slice-aggregate-low-first-16 Inv-loop μ-loop
 slice-aggregate-low-first-16 c = search needs
@@ -37,8 +39,8 @@ add-low-first-16 c = search needs
 low-first-16-requires : tie.Need-low-first-16-requires Inv-loop μ-loop
 low-first-16-requires c κs = search needs
 
-put-requires : tie.Need-put-requires Inv-loop μ-loop
-put-requires c κs = search needs
+put-value-requires : tie.Need-put-value-requires Inv-loop μ-loop
+put-value-requires c κs = search needs
 
 add-i : tie.Need-add-i Inv-loop μ-loop
 add-i c = search needs
@@ -51,8 +53,9 @@ unfolding pairsIn draftedOf
 loop-again c =
     let value = c .before in
     let at = value .before .before in
-    let turn = at .before .before in
-    (search needs, rw (add-one, c .put .ensures, value .low-first-16 .ensures, at .register-at .ensures, turn .loop .inv .1))
+    let turn = at .before .before .before in
+    let more = put-among (c .put-value .ensures) (turn .loop .inv .1) in
+    (search needs, rw (add-one, ← value .low-first-16 .ensures, ← at .register-at .ensures) more)
 
 returns : tie.Need-returns Inv-loop μ-loop
 returns c =
@@ -67,12 +70,12 @@ drafted-spec =
     μ-loop
     loop-holds
     register-at-requires
-    cast-put
+    cast-put-value
     slice-aggregate-low-first-16
     mul-low-first-16
     add-low-first-16
     low-first-16-requires
-    put-requires
+    put-value-requires
     add-i
     loop-less
     loop-again
