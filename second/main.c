@@ -12,8 +12,10 @@
    second --calls                  prints a recording from standard input as calls
    second --line [RECORDING]       answers a raw line from standard input on standard output, after that recording
    second --engine                 holds the board to the plain engine, on a recording of up to 600 ticks
+   second --page-tables            prints a recording's tables of the page in plain lines; tables.c says which
    second --record SEED TICKS      writes a recording to standard output
    second --record SEED TICKS D    the same with one damage; record.c has the names
+   second --courier SEED DAYS      writes the recording of a courier's days to standard output
    second --bill                   prints the totals of the records of hires on standard input
    second --bills SEED N           writes N records of hires to standard output
    second --bills SEED N D         the same with one damage, D cut or past
@@ -246,6 +248,12 @@ static int write_recording_of(int words, char **word)
     return write_recording(seed, ticks, damage) ? ALL_WELL : WRONG_WORDS;
 }
 
+static int write_courier_of(char **word)
+{
+    const uint64_t seed = number_of("second", "SEED", word[2], 0, UINT64_MAX);
+    return write_courier(seed, number_of("second", "DAYS", word[3], 0, UINT64_MAX / TICKS_OF_DAY)) ? ALL_WELL : FAILED;
+}
+
 /* A total goes past at the second record at the earliest. */
 static int write_hires_of(int words, char **word)
 {
@@ -256,21 +264,30 @@ static int write_hires_of(int words, char **word)
     return write_hires(seed, hires, damage) ? ALL_WELL : WRONG_WORDS;
 }
 
+/* Orders of one word, which read standard input and give back whether nothing is refused. */
+static const struct {
+    const char *order;
+    bool (*obey)(void);
+} alone[] = {{"--replay", replay_recording}, {"--calls", print_calls}, {"--engine", engine_agrees},
+             {"--page-tables", print_page_tables}, {"--bill", bill_hires}};
+
+static int obey_alone(const char *order)
+{
+    for (size_t at = 0; at < sizeof alone / sizeof alone[0]; at++)
+        if (strcmp(order, alone[at].order) == 0)
+            return alone[at].obey() ? ALL_WELL : FAILED;
+    return WRONG_WORDS;
+}
+
 static int obey_words(int words, char **word)
 {
     const char *order = words > 1 ? word[1] : "";
-    if (words == 2 && strcmp(order, "--replay") == 0)
-        return replay_recording() ? ALL_WELL : FAILED;
-    if (words == 2 && strcmp(order, "--calls") == 0)
-        return print_calls() ? ALL_WELL : FAILED;
     if ((words == 2 || words == 3) && strcmp(order, "--line") == 0)
         return serve_line(words == 3 ? word[2] : NULL) ? ALL_WELL : FAILED;
-    if (words == 2 && strcmp(order, "--engine") == 0)
-        return engine_agrees() ? ALL_WELL : FAILED;
     if ((words == 4 || words == 5) && strcmp(order, "--record") == 0)
         return write_recording_of(words, word);
-    if (words == 2 && strcmp(order, "--bill") == 0)
-        return bill_hires() ? ALL_WELL : FAILED;
+    if (words == 4 && strcmp(order, "--courier") == 0)
+        return write_courier_of(word);
     if ((words == 4 || words == 5) && strcmp(order, "--bills") == 0)
         return write_hires_of(words, word);
     if (words >= 4 && strcmp(order, "--script") == 0)
@@ -283,6 +300,8 @@ static int obey_words(int words, char **word)
         print_events();
         return ALL_WELL;
     }
+    if (words == 2)
+        return obey_alone(order);
     if (words == 3 && strcmp(order, "--fault") == 0)
         board_fault = (int)number_of("second", "N", word[2], 1, 6);
     else if (words != 1)
@@ -299,6 +318,7 @@ int main(int words, char **word)
               "       second --script SEED CALLS [ticks|frames|quick|memory|cabinet|desk|classes|life]\n"
               "       second --limits latchings|currents|distance|charge|event-time|event-numbers\n"
               "       second --compare NAME SCRIPT | second --replay | second --calls | second --engine\n"
+              "       second --page-tables | second --courier SEED DAYS\n"
               "       second --line [RECORDING] | second --bill | second --bills SEED N [cut|past]\n"
               "       second --record SEED TICKS [DAMAGE], DAMAGE one of\n"
               "       cell flag padding current internal pulses cut opening-cut opening-padding opening-count\n", stderr);

@@ -6,17 +6,6 @@
 #include <stdio.h>
 #include <string.h>
 
-/* A record as it is written, with a place for all that must be zero. */
-struct written {
-    uint16_t cell[MOST_CELLS];
-    int32_t current;
-    int16_t temperature[3];     /* internal, external 1, external 2 */
-    uint16_t pulses;
-    uint8_t flags, zero[3];
-};
-
-enum { CHARGER = 1, IGNITION = 2 };
-
 struct week {
     uint64_t chance;
     int cells, pulses_per_km;
@@ -234,7 +223,7 @@ static void write_opening(struct damaged *damaged, const struct week *week)
     fwrite(opening, 1, cut ? (size_t)between(damaged, 0, OPENING_BYTES - 1) : OPENING_BYTES, stdout);
 }
 
-static void write_record(const struct written *record, size_t length)
+void write_record(const struct written *record, size_t length)
 {
     uint8_t bytes[RECORD_BYTES], *at = bytes;
     for (int cell = 0; cell < MOST_CELLS; cell++)

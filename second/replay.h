@@ -23,7 +23,10 @@ struct record {
 struct replay {
     FILE *recording;
     struct board board;         /* as after the last good tick */
+    uint8_t opening[OPENING_BYTES];
     struct record record;       /* the latest one read */
+    size_t bytes_read;          /* of the opening or of the record that was read last: too few where it is cut */
+    enum number tick_number;    /* that the board gave the record; DONE too where a wrong bit kept it from the board */
     uint64_t ticks;             /* accepted */
     enum number number;         /* other than DONE: it is over */
     const char *meaning;        /* of that number */
@@ -43,8 +46,31 @@ bool print_calls(void);
 /* Whether the board and the plain engine agree at every tick; else it says where they do not. */
 bool engine_agrees(void);
 
+/* A recording's tables of the page, in plain lines: tables.c says which; gives back whether nothing is refused. */
+bool print_page_tables(void);
+
+/* A record as it is written, with a place for all that must be zero. */
+struct written {
+    uint16_t cell[MOST_CELLS];
+    int32_t current;
+    int16_t temperature[3];     /* internal, external 1, external 2 */
+    uint16_t pulses;
+    uint8_t flags, zero[3];
+};
+
+enum { CHARGER = 1, IGNITION = 2 };     /* of the flags */
+
+/* The first `length` bytes of a record, to standard output. */
+void write_record(const struct written *record, size_t length);
+
 /* Writes a recording to standard output, always the same for one seed; damage is NULL or the name of one. False where
    there is no damage of that name. */
 bool write_recording(uint64_t seed, uint64_t ticks, const char *damage);
+
+enum { TICKS_OF_DAY = 864000 };
+
+/* Writes a courier's days to standard output, always the same for one seed. False where a board would refuse a tick of
+   them, which is a fault of theirs and told. */
+bool write_courier(uint64_t seed, uint64_t days);
 
 #endif
