@@ -3,11 +3,11 @@
 use mathlib.Core.Path.{_≡_, refl, sym, ap, _∙_}
 use mathlib.Core.Bool.{Bool, true, false, _&&_, _||_, cond, false≢true}
 use mathlib.Core.List.{List}
-use Prim.Native.Nat.{ℕ, _+_, _-_, _/_, _%_, _<_, _≤_, min}
+use Prim.Native.Nat.{ℕ, _+_, _-_, _/_, _<_, _≤_, min}
 use native.Mathlib.Nat.{zero-add}
 use native.Mathlib.Omega.{arith}
 use borrow.Author.Tests.{le-leb, lt-leb, leb-true, leb-false, ltb-true, ltb-false}
-use lib.Dec.{eqb, leb, ltb}
+use lib.Dec.{leb, ltb}
 use lib.ListN.{getD}
 use Rattle.laws.specs.Row.{row}
 use Rattle.laws.proofs.Rows.{row-at, row-alike}
@@ -153,7 +153,7 @@ module _ (p : Pack) (h : Hire) where
 
 pub listed-alike : (value value′ : ℕ → ℕ) → ((at : ℕ) → value at ≡ value′ at) → (s : List ℕ) (i : ℕ) → listedBy value s i ≡ listedBy value′ s i
 unfolding listedBy
-listed-alike value value′ e s i = ap (λ (x : ℕ). cond (eqb (i % 2) 0) (addressAt s (i / 2)) x) (e (addressAt s (i / 2)))
+listed-alike value value′ e s i = rw (e (addressAt s (i / 2)))
 
 pub of-lists : (p : Pack) (h : Hire) (s : List ℕ) (n : ℕ) {readings statistics settings : List ℕ} → readings ≡ readingsRow p h → statistics ≡ statisticsRow p h
     → settings ≡ settingsRow p h → row 127 (listedBy (lookedUp readings statistics settings) s) n ≡ row 127 (listedBy (valueAt p h) s) n
