@@ -3,7 +3,7 @@
  * time.
  *
  * A verb gives document 01's or 02's number: 0 for done; any other is a refusal, and changes nothing but what the verb says. Any value of
- * the struct is safe to call: one without a start, all zeros too, answers 21. An address may be NULL where the length beside it is 0, and
+ * the struct is safe to call, its bools 0 or 1; one of all zeros answers 21. An address may be NULL where the length beside it is 0, and
  * what is lent to be written overlaps nothing else that is lent.
  */
 #ifndef SLATECAUSEWAY_H
@@ -190,7 +190,7 @@ static inline int sc_start(struct sc_board *board, uint8_t cells, uint16_t pulse
 }
 
 /* One set of readings, every 100 ms: the cells in 0.1 mV, as many as the board has, and the rest. It sets switches and balancing bits.
- * 11: another number of cells; 12: current past 1,000,000 mA; 13: internal not connected; 14: too many pulses; 21: no board. */
+ * 11: another number of cells; 12: current past 1,000,000 mA; 13: no internal; 14: over 400 pulses, or any without a sensor; 21. */
 static inline int sc_tick(struct sc_board *board, const uint16_t *cells, size_t count, struct sc_readings readings) {
     struct sc_told told = slatecauseway_tick(*board, cells, count, readings);
     *board = told.board;
@@ -281,7 +281,7 @@ static inline bool sc_register(const struct sc_board *board, uint16_t number, ui
 }
 
 /* Whether the charger may charge, and the motor draw.
- * Both are off while a condition that names them is latched, and before the first tick. */
+ * Each is off while a condition that names it is latched, and before the first tick of a hire. */
 static inline bool sc_charge_switch(const struct sc_board *board) { return slatecauseway_charge_switch(*board); }
 static inline bool sc_discharge_switch(const struct sc_board *board) { return slatecauseway_discharge_switch(*board); }
 

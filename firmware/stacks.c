@@ -1,6 +1,6 @@
 /* The deepest stack of each verb: the verb is called on a stack of its own that was painted before, and what is no longer paint was used.
-   Each is called accepted and refused, with the longest that it takes; the most of these is told, a line a verb, in bytes. It counts what
-   lies between the caller's frame and the deepest byte: the verb's own copies of the board too. */
+   Each is called with the longest that it takes, ticks and frames refused too; the most of these is told, a line a verb, in bytes. It
+   counts what lies between the caller's frame and the deepest byte that is no paint now: the verb's own copies of the board too. */
 #define _GNU_SOURCE
 #include <stdio.h>
 #include <string.h>
@@ -82,6 +82,20 @@ static size_t deepest(void (*call)(void))
 
 static size_t most(size_t a, size_t b) { return a > b ? a : b; }
 
+/* A write of all hundred registers, with the values that they have: it is accepted. */
+static void ask_accepted_write(void)
+{
+    static const uint8_t head[] = {0xAA, 0x10, 0x01, 0x2C, 0, 100, 200};
+    ask(207, head, sizeof head);
+    for (uint16_t i = 0; i < 100; i++) {
+        uint16_t value = 0;
+        sc_register(&board, 300 + i, &value);
+        request[7 + 2 * i] = (uint8_t)(value >> 8);
+        request[8 + 2 * i] = (uint8_t)value;
+    }
+    seal(207);
+}
+
 static size_t frames(void (*call)(void))
 {
     static const struct {
@@ -94,8 +108,11 @@ static size_t frames(void (*call)(void))
         {3, 3, {0xAA, 0x02, 1}},                {2, 2, {0xAA, 0x1C}},                       {2, 2, {0xAA, 0x77}},
     };
     size_t depth = 0;
-    for (size_t i = 0; i < sizeof asked / sizeof *asked; i++) {
-        ask(asked[i].bytes, asked[i].head, asked[i].count);
+    for (size_t i = 0; i <= sizeof asked / sizeof *asked; i++) {
+        if (i < sizeof asked / sizeof *asked)
+            ask(asked[i].bytes, asked[i].head, asked[i].count);
+        else
+            ask_accepted_write();
         if (call == fetch)
             offer();
         depth = most(depth, deepest(call));
