@@ -20,7 +20,7 @@ use Rattle.signed.specs.Signed as signed
 use Rattle.writes.specs.declared.Form.{Form}
 use Rattle.writes.specs.declared.Form.the-variants as form
 use Rattle.writes.specs.declared.Pair.{Pair}
-use Rattle.writes.specs.Writes.{pairsOf, draftedOf}
+use Rattle.writes.specs.Writes.{pairsOf, draftedOf, writtenTo}
 use Rattle.requests.specs.declared.Query.{Query}
 use Rattle.requests.specs.declared.Query.the-variants.{Registers, Listed, Bare, NewEvents, AllEvents, Temperatures, Cells, SettingsOf}
 use Rattle.requests.specs.declared.Request.{Request}
@@ -132,10 +132,7 @@ askedRows p s (request.Read q) = []
 abbrev pub writeOutcome : Settings → List Pair → Outcome
 writeOutcome st ps = settings.outcomeOf (draftedOf (settings.draftOf st) ps)
 
-abbrev pub writeReply : Settings → List ℕ → Form → ℕ → List ℕ
-writeReply st s f n = replyBy (writeOutcome st (pairsOf f s n)) s (sealed (takenReply f s n))
-
--- what a request comes to, and its reply
+-- what a request comes to, the settings that then stand, and its reply
 unfoldable pub askedOutcome : Pack → List ℕ → Request → Outcome
 askedOutcome p s (request.Refused refusal) = Refused refusal
 askedOutcome p s request.ClearEvents = Done
@@ -143,15 +140,21 @@ askedOutcome p s request.ClearStatistics = Done
 askedOutcome p s (request.Write f n) = writeOutcome (p .settings) (pairsOf f s n)
 askedOutcome p s (request.Read q) = Done
 
+unfoldable pub askedSettings : Pack → List ℕ → Request → Settings
+askedSettings p s (request.Refused refusal) = p .settings
+askedSettings p s request.ClearEvents = p .settings
+askedSettings p s request.ClearStatistics = p .settings
+askedSettings p s (request.Write f n) = writtenTo (p .settings) (pairsOf f s n) .settings
+askedSettings p s (request.Read q) = p .settings
+
 abbrev pub askedReply : Pack → Hire → List ℕ → Request → List ℕ
 askedReply p h s q = replyBy (askedOutcome p s q) s (acceptedReply p h s q)
 
--- a reply into a buffer of any length, and what the request comes to
-pub record Replied (outcome : Outcome) (reply before : List ℕ) (r : Outcome) (after : List ℕ) : Type 0 where
-  pub outcome-is : r ≡ outcome
-  pub reply-is : Filled before reply after
-
--- the same of the request that the bytes s make, and what they ask
+-- of the bytes s: what they ask, what that comes to, the settings that then stand, and the reply into a buffer of any length
 pub record Answers (p : Pack) (h : Hire) (s before : List ℕ) (r : Told) (after : List ℕ) : Type 0 where
-  pub told-is : r ≡ record { asked = requestOf s; outcome = askedOutcome p s (requestOf s) }
+  pub told-is : r ≡ record {
+    asked = requestOf s;
+    outcome = askedOutcome p s (requestOf s);
+    settings = askedSettings p s (requestOf s);
+  }
   pub reply-is : Filled before (askedReply p h s (requestOf s)) after

@@ -9,9 +9,8 @@ ghost use lib.ListN.{length, getD};
 ghost use Rattle.laws.specs.Row.{row};
 ghost use Rattle.requests.specs.Requests.{requestOf};
 ghost use Rattle.numbers.specs.Numbers.{be16, Wrote};
-ghost use Rattle.replies.specs.Replies.{word16, words, sealed, ackOf, Filled};
-ghost use Rattle.writes.specs.Writes.{pairsOf};
-ghost use Rattle.answers.specs.Answers.{bodyOf, takenReply, refusedReply, writeReply, writeOutcome, askedOutcome, askedReply, Replied, Answers};
+ghost use Rattle.replies.specs.Replies.{word16, words, sealed, Filled};
+ghost use Rattle.answers.specs.Answers.{bodyOf, takenReply, acceptedReply, refusedReply, replyBy, askedOutcome, askedSettings, Answers};
 ghost use Rattle.answers.specs.Making.{countOf, wordOf, replyOf};
 use crate::registers::WORDS;
 use crate::registers::block;
@@ -26,6 +25,7 @@ pub use registers::register;
 use requests::Query;
 use requests::Request;
 use settings::Settings;
+use settings::Written;
 use writes::Form;
 
 // A register's value; a number outside the three ranges has none.
@@ -34,10 +34,11 @@ pub enum Shown {
     Nothing,
 }
 
-// What a request asks, and what it comes to.
+// What a request asks, what it comes to, and the settings that then stand.
 pub struct Told {
     pub asked: Request,
     pub outcome: Outcome,
+    pub settings: Settings,
 }
 
 // The reply to a request, of any bytes.
@@ -45,29 +46,54 @@ pub fn answer(pack: Pack, hire: Hire, request: &[u8], reply: &mut [u8]) -> Told
     ensures { λ r. ⌜ Answers pack hire (now (request .entry)) (now (reply .entry)) r (now (reply .exit)) ⌝ }
 {
     let asked = requests::parsed(request);
-    let outcome = reply_to(pack, hire, request, asked, reply);
-    Told { asked, outcome }
-}
-
-// The reply to what those bytes ask.
-fn reply_to(pack: Pack, hire: Hire, request: &[u8], asked: Request, reply: &mut [u8]) -> Outcome
-    requires { ⌜ asked ≡ requestOf (now request) ⌝ }
-    ensures { λ r. ⌜ Replied (askedOutcome pack (now (request .entry)) asked) (askedReply pack hire (now (request .entry)) asked) (now (reply .entry)) r (now (reply .exit)) ⌝ }
-{
-    match asked {
-        Request::Refused(refusal) => refuse(refusal, request, reply),
-        Request::ClearEvents => acknowledge(reply),
-        Request::ClearStatistics => acknowledge(reply),
-        Request::Write { form, count } => confirm(pack.settings, request, form, count, reply),
-        Request::Read(query) => read(pack, hire, request, query, reply),
+    let decided = decide(pack, request, asked);
+    let outcome = decided.outcome;
+    let settings = decided.settings;
+    put_reply(pack, hire, request, asked, outcome, reply);
+    Told {
+        asked,
+        outcome,
+        settings,
     }
 }
 
-fn refuse(refusal: Refusal, request: &[u8], reply: &mut [u8]) -> Outcome
-    ensures { λ r. ⌜ Replied (Outcome.Refused refusal) (refusedReply refusal (now (request .entry))) (now (reply .entry)) r (now (reply .exit)) ⌝ }
+// What it comes to, and the settings that then stand: a write goes through their one judgement.
+fn decide(pack: Pack, request: &[u8], asked: Request) -> Written
+    ensures { λ r. ⌜ r ≡ record { outcome = askedOutcome pack (now (request .entry)) asked; settings = askedSettings pack (now (request .entry)) asked } ⌝ }
 {
-    put_refusal(refusal, request, reply);
-    Outcome::Refused(refusal)
+    let settings = pack.settings;
+    match asked {
+        Request::Refused(refusal) => stays(settings, Outcome::Refused(refusal)),
+        Request::ClearEvents => stays(settings, Outcome::Done),
+        Request::ClearStatistics => stays(settings, Outcome::Done),
+        Request::Write { form, count } => writes::written(settings, request, form, count),
+        Request::Read(_) => stays(settings, Outcome::Done),
+    }
+}
+
+// Not a write: they stay.
+fn stays(settings: Settings, outcome: Outcome) -> Written
+    ensures { λ r. ⌜ r ≡ record { outcome = outcome; settings = settings } ⌝ }
+{
+    Written { outcome, settings }
+}
+
+// The reply to what those bytes ask, by what it comes to.
+fn put_reply(
+    pack: Pack,
+    hire: Hire,
+    request: &[u8],
+    asked: Request,
+    outcome: Outcome,
+    reply: &mut [u8],
+)
+    requires { ⌜ asked ≡ requestOf (now request) ⌝ }
+    ensures { λ _. ⌜ Filled (now (reply .entry)) (replyBy outcome (now (request .entry)) (acceptedReply pack hire (now (request .entry)) asked)) (now (reply .exit)) ⌝ }
+{
+    match outcome {
+        Outcome::Done => put_accepted(pack, hire, request, asked, reply),
+        Outcome::Refused(refusal) => put_refusal(refusal, request, reply),
+    }
 }
 
 // A NACK names the request's second byte.
@@ -81,23 +107,18 @@ fn put_refusal(refusal: Refusal, request: &[u8], reply: &mut [u8])
     }
 }
 
-fn acknowledge(reply: &mut [u8]) -> Outcome
-    ensures { λ r. ⌜ Replied Outcome.Done (sealed (ackOf 0x02)) (now (reply .entry)) r (now (reply .exit)) ⌝ }
+// The reply to what is accepted.
+fn put_accepted(pack: Pack, hire: Hire, request: &[u8], asked: Request, reply: &mut [u8])
+    requires { ⌜ asked ≡ requestOf (now request) ⌝ }
+    ensures { λ _. ⌜ Filled (now (reply .entry)) (acceptedReply pack hire (now (request .entry)) asked) (now (reply .exit)) ⌝ }
 {
-    replies::ack(reply, 0x02);
-    Outcome::Done
-}
-
-// A write to settings that stand goes through their one judgement: it is confirmed, or refused.
-fn confirm(settings: Settings, request: &[u8], form: Form, count: u8, reply: &mut [u8]) -> Outcome
-    ensures { λ r. ⌜ Replied (writeOutcome settings (pairsOf form (now (request .entry)) count)) (writeReply settings (now (request .entry)) form count) (now (reply .entry)) r (now (reply .exit)) ⌝ }
-{
-    let outcome = writes::written(settings, request, form, count).outcome;
-    match outcome {
-        Outcome::Done => put_taken(request, form, count, reply),
-        Outcome::Refused(refusal) => put_refusal(refusal, request, reply),
+    match asked {
+        Request::Refused(_) => replies::zero_from(reply, 0),
+        Request::ClearEvents => replies::ack(reply, 0x02),
+        Request::ClearStatistics => replies::ack(reply, 0x02),
+        Request::Write { form, count } => put_taken(request, form, count, reply),
+        Request::Read(query) => read(pack, hire, request, query, reply),
     }
-    outcome
 }
 
 // Address and RL of 0x10, or an ACK.
@@ -121,15 +142,14 @@ fn put_address(address: u16, count: u8, reply: &mut [u8])
 }
 
 // A query is answered by its words; no request asks for more than 127.
-fn read(pack: Pack, hire: Hire, request: &[u8], query: Query, reply: &mut [u8]) -> Outcome
+fn read(pack: Pack, hire: Hire, request: &[u8], query: Query, reply: &mut [u8])
     requires { ⌜ requestOf (now request) ≡ Request.Read query ⌝ }
-    ensures { λ r. ⌜ Replied Outcome.Done (sealed (bodyOf pack hire (now (request .entry)) query)) (now (reply .entry)) r (now (reply .exit)) ⌝ }
+    ensures { λ _. ⌜ Filled (now (reply .entry)) (sealed (bodyOf pack hire (now (request .entry)) query)) (now (reply .exit)) ⌝ }
 {
     let events = hire.events;
     let cells = at_most_16(pack.cells);
     let count = query.word_count(events.new_count(), events.kept_count(), cells);
     send(pack, hire, request, query, count, reply);
-    Outcome::Done
 }
 
 // As many cells as a board can have.

@@ -18,8 +18,10 @@ use Rattle.board.specs.declared.Heard.{Heard}
 use Rattle.board.specs.declared.Stored.{Stored}
 use Rattle.answers.specs.declared.Shown.{Shown}
 use Rattle.answers.specs.Registers.{shownAt}
-use Rattle.answers.specs.Answers.{askedOutcome, askedReply}
+use Rattle.answers.specs.Answers.{askedOutcome, askedSettings, askedReply}
+use Rattle.requests.specs.declared.Request.{Request}
 use Rattle.requests.specs.Requests.{requestOf}
+use Rattle.settings.specs.declared.Settings.{Settings}
 use Rattle.replies.specs.Replies.{Filled}
 use Rattle.board.specs.Start.{startOf}
 use Rattle.board.specs.State.{usable}
@@ -41,6 +43,10 @@ requestOutcome b s = askedOutcome (b .pack) s (requestOf s)
 
 abbrev pub requestAnswer : Board → List ℕ → Answer
 requestAnswer b s = record { outcome = requestOutcome b s; board = cond (isDone (requestOutcome b s)) (changedBy b s (requestOf s)) b }
+
+-- what a request changes that is accepted: the board after it, of any bytes that ask this and leave those settings
+pub record Changed (b : Board) (q : Request) (st : Settings) (r : Board) : Type 0 where
+  pub changed : (s : List ℕ) → st ≡ askedSettings (b .pack) s q → r ≡ changedBy b s q
 
 -- ---- the calls
 

@@ -1,10 +1,9 @@
 // A frame: one whole request, answered into a lent buffer.
 ghost use mathlib.Core.Path.{_≡_};
 ghost use lib.ListN.{length};
-ghost use Rattle.writes.specs.Writes.{pairsOf};
-ghost use Rattle.board.specs.Changes.{clearedEvents, clearedStatistics, written, markedBy, changedBy};
+ghost use Rattle.board.specs.Changes.{clearedEvents, clearedStatistics, markedBy};
 ghost use Rattle.board.specs.Calls.{frame};
-ghost use Rattle.board.specs.Promises.{Leaves, Roomed, Answered};
+ghost use Rattle.board.specs.Promises.{Leaves, Roomed, Changed, Answered};
 use crate::Answer;
 use crate::Board;
 use events::Events;
@@ -12,8 +11,8 @@ use refusals::Outcome;
 use refusals::Refusal;
 use requests::Query;
 use requests::Request;
+use settings::Settings;
 use statistics::Statistics;
-use writes::Form;
 
 impl Board {
     // What it comes to, the board after it, and every byte of the reply buffer, whatever its length.
@@ -52,20 +51,20 @@ impl Board {
         let asked = told.asked;
         let is_taken = outcome.is_done();
         if is_taken {
-            return self.changed(request, asked).with_outcome(outcome);
+            return self.changed(asked, told.settings).with_outcome(outcome);
         }
         self.with_outcome(outcome)
     }
 
     // The board after an accepted request: nothing changes but by 0x02's clears, a write, and 0x11's mark.
-    fn changed(self, request: &[u8], asked: Request) -> Board
-        ensures { λ r. ⌜ r ≡ changedBy self (now (request .entry)) asked ⌝ }
+    fn changed(self, asked: Request, settings: Settings) -> Board
+        ensures { λ r. ⌜ Changed self asked settings r ⌝ }
     {
         match asked {
             Request::Refused(_) => self,
             Request::ClearEvents => self.clear_events(),
             Request::ClearStatistics => self.clear_statistics(),
-            Request::Write { form, count } => self.write(request, form, count),
+            Request::Write { form: _, count: _ } => self.with_settings(settings),
             Request::Read(query) => self.marked(query),
         }
     }
@@ -81,13 +80,6 @@ impl Board {
     {
         let fresh = Statistics::cleared_at(self.pack.clock.seconds);
         self.with_hire(self.hire.with_statistics(fresh))
-    }
-
-    fn write(self, request: &[u8], form: Form, count: u8) -> Board
-        ensures { λ r. ⌜ r ≡ written self (pairsOf form (now (request .entry)) count) ⌝ }
-    {
-        let written = writes::written(self.pack.settings, request, form, count);
-        self.with_settings(written.settings)
     }
 
     fn marked(self, query: Query) -> Board

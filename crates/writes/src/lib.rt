@@ -1,6 +1,8 @@
 // What a write holds: its registers, how many there are, and what they make of the settings. Read from a request's bytes alone, with no length trusted.
+ghost use mathlib.Core.Bool.{_&&_, _||_};
 ghost use mathlib.Core.Path.{_≡_};
 ghost use Prim.Native.Nat.{_+_, _-_};
+ghost use lib.Dec.{eqb, leb};
 ghost use Rattle.numbers.specs.Numbers.{be16At};
 ghost use Rattle.writes.specs.Writes.{writeCommand, pairAt, pairsOf, countOf, wellCounted, allSettings, keepsRules, draftedOf, writtenTo};
 use numbers::byte_at;
@@ -87,10 +89,28 @@ fn is_counted(form: Form, bytes: &[u8], count: u8) -> bool
 fn are_all_settings(form: Form, bytes: &[u8], count: u8) -> bool
     ensures { λ r. ⌜ r ≡ allSettings (pairsOf form (now (bytes .entry)) count) ⌝ }
 {
+    match form {
+        Form::Modbus => is_among_settings(high_first_16(bytes, 2), count),
+        Form::Block => is_among_settings(low_first_16(bytes, 3), count),
+        Form::List => are_listed_settings(bytes, count),
+    }
+}
+
+// A block goes up by one: it lies there where its first and its last do, or where it has none.
+fn is_among_settings(first: u16, count: u8) -> bool
+    ensures { λ r. ⌜ r ≡ (eqb count 0 || (leb 300 first && leb (first + count) 400)) ⌝ }
+{
+    let end = (first as u32) + (count as u32);
+    (count == 0) | ((300 <= first) & (end <= 400))
+}
+
+fn are_listed_settings(bytes: &[u8], count: u8) -> bool
+    ensures { λ r. ⌜ r ≡ allSettings (pairsOf Form.List (now (bytes .entry)) count) ⌝ }
+{
     let mut good = true;
     let mut i: u16 = 0;
     while i < (count as u16) {
-        let at = pair_at(form, bytes, i).at;
+        let at = low_first_16(bytes, 3 + 4 * (i as usize));
         good = good & ((300 <= at) & (at <= 399));
         i += 1;
     }

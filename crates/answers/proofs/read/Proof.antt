@@ -1,5 +1,5 @@
 -- What is sent is the reply: the request asks for no more words than there is room for. Assumes nothing.
-use mathlib.Core.Path.{_≡_, refl}
+use mathlib.Core.Path.{_≡_}
 use denote.Ref.{now}
 use Rattle.answers.specs.Making.{countOf}
 use Rattle.answers.proofs.Made.{few-words, as-sent}
@@ -46,13 +46,7 @@ returns c =
     let send = c .before .before in
     let count = send .before .before in
     let args = count .before .before .before .before .before .before .before .args in
-    record {
-      outcome-is = refl;
-      reply-is = rw (
-        ← as-sent (args .pack) (args .hire) (now (args .request)) (args .query),
-        ← told count,
-      ) (send .send .ensures);
-    }
+    rw (← as-sent (args .pack) (args .hire) (now (args .request)) (args .query), ← told count) (send .send .ensures)
 
 pub read-spec : {M : Type 1} → statement M
 read-spec =

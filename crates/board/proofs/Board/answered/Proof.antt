@@ -15,14 +15,20 @@ use Rattle.board.proofs.Board.answered.Statement.{statement}
 use Rattle.board.proofs.Board.answered.Tie as tie
 
 module _ (b : Board) (s : List ℕ) {before after : List ℕ} {t : Told} (told : answers.Answers (b .pack) (b .hire) s before t after) where
+  -- what is asked leaves the settings that are told
+  stands : t .settings ≡ answers.askedSettings (b .pack) s (t .asked)
+  stands =
+      ap (λ (t : Told). t .settings) (told .told-is)
+      ∙ sym (ap (λ (t : Told). answers.askedSettings (b .pack) s (t .asked)) (told .told-is))
+
   -- by the test: what it changes, or the board as it was
   by-test : {d : Bool} {r : Answer} {x : Board} → d ≡ isDone (t .outcome) → x ≡ cond d (changedBy b s (t .asked)) b
       → r ≡ record { outcome = t .outcome; board = x } → Answered b s before r after
   by-test tested e p =
       let test = ap (λ (d : Bool). cond d (changedBy b s (t .asked)) b) tested in
-      let stands = ap (λ (t : Told). cond (isDone (t .outcome)) (changedBy b s (t .asked)) b) (told .told-is) in
+      let board = ap (λ (t : Told). cond (isDone (t .outcome)) (changedBy b s (t .asked)) b) (told .told-is) in
       record {
-        answer = p ∙ (λ i. record { outcome = told .told-is i .outcome; board = (e ∙ test ∙ stands) i });
+        answer = p ∙ (λ i. record { outcome = told .told-is i .outcome; board = (e ∙ test ∙ board) i });
         reply = told .reply-is;
       }
 
@@ -45,8 +51,9 @@ returns : tie.Need-returns
 returns c =
     let then1 = c .before .before in
     let tested = then1 .before in
-    by-test _ _ (tested .before .before .before .answer .ensures) (sym (then1 .if1 .taken) ∙ tested .is-done .ensures)
-    (c .before .changed .ensures) (c .with-outcome .ensures)
+    let told = tested .before .before .before .answer .ensures in
+    by-test _ _ told (sym (then1 .if1 .taken) ∙ tested .is-done .ensures)
+    (c .before .changed .ensures .changed _ (stands _ _ told)) (c .with-outcome .ensures)
 
 with-outcome-requires-2 : tie.Need-with-outcome-requires-2
 with-outcome-requires-2 c κs = search needs
