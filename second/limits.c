@@ -1,5 +1,7 @@
 /* Scripts that drive a number of the statistics, or the event time, to its end and once more, or go through all event
-   numbers. They are too long to be stored; each begins with a comment that says what it drives. */
+   numbers. They are too long to be stored; each begins with a comment that says what it drives. A count's script is as
+   short as its waits allow: 2 ticks a latching for UV, OV and OT with an entry into 0x91, 11 for DOC, COC and ROC. The
+   distance is driven at 20 pulses per km, the fewest with which 2^32 - 1 is met and not only passed. */
 #include "console.h"
 
 #include <stdio.h>
