@@ -10,7 +10,7 @@
 #include <time.h>
 
 #include "slatecauseway.h"
-#include "../second/board.h"
+#include "../second/board/board.h"
 
 enum { CELLS = 8, PULSES_PER_KM = 2000, LONGEST_FRAME = 300, MOST_RUNS = 99 };
 

@@ -29,7 +29,7 @@
 #ifndef CODE_H
 #define CODE_H
 
-#include "../second/call.h"
+#include "../second/trials/call.h"
 
 enum { CODE_ROOM = MOST_ROOM + 16 };    /* for a call at its longest, a store of 600 bytes */
 

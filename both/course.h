@@ -2,7 +2,7 @@
 #ifndef COURSE_H
 #define COURSE_H
 
-#include "../second/script.h"
+#include "../second/trials/script.h"
 
 struct course {
     struct script script;       /* its board and store are the second program's */

@@ -6,7 +6,7 @@
    Where the boards differ, it prints a short script that leads there, as the console's lines, and ends with 1. */
 #include "course.h"
 #include "input.h"
-#include "../second/word.h"
+#include "../second/trials/word.h"
 
 #include <inttypes.h>
 #include <stdio.h>

@@ -2,7 +2,7 @@
    past its end does not go on. */
 #define _DEFAULT_SOURCE
 #include "pair.h"
-#include "../second/chance.h"
+#include "../second/trials/chance.h"
 
 #include <stdio.h>
 #include <stdlib.h>

@@ -3,7 +3,7 @@
 #ifndef PAIR_H
 #define PAIR_H
 
-#include "../second/console.h"
+#include "../second/trials/console.h"
 #include "slatecauseway.h"
 
 struct pair {

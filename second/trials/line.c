@@ -1,6 +1,6 @@
 /* `line`: a board "at one end of a raw serial line: bytes on standard input, replies on standard output, and nothing else there." */
+#include "../board/replay.h"
 #include "console.h"
-#include "replay.h"
 
 #include <stdio.h>
 

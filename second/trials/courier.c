@@ -3,7 +3,7 @@
    discharge switch off the motor has no current, with its charge switch off the charger gives none. Whole numbers alone,
    drawn one after the other, so a seed gives the same bytes everywhere. */
 #include "chance.h"
-#include "replay.h"
+#include "recording.h"
 
 #include <inttypes.h>
 #include <stdio.h>

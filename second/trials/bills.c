@@ -1,7 +1,8 @@
 /* Records for W-214, of hires that are made up. Their fields are of all sizes, and the totals of the two sums may come to
    the largest value; past it only where that is asked for. */
+#include "bills.h"
+#include "../board/hire.h"
 #include "chance.h"
-#include "hire.h"
 
 #include <stdio.h>
 #include <string.h>

@@ -17,8 +17,4 @@ struct hire take_hire(const uint8_t record[HIRE_BYTES]);
 /* Prints the totals of the records on standard input, and at the end how it went; gives back whether nothing is refused. */
 bool bill_hires(void);
 
-/* Writes so many records to standard output, always the same for one seed; damage is NULL or the name of one. False where
-   there is no damage of that name. */
-bool write_hires(uint64_t seed, uint64_t hires, const char *damage);
-
 #endif

@@ -1,7 +1,7 @@
 /* Recordings for W-211, of a week that is made up. Rests, rides and charges follow each other, and now and then the
    readings lie at, one below or one above a limit of document 01's table with the factory settings. */
 #include "chance.h"
-#include "replay.h"
+#include "recording.h"
 
 #include <stdio.h>
 #include <string.h>

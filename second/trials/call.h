@@ -2,7 +2,7 @@
 #ifndef CALL_H
 #define CALL_H
 
-#include "board.h"
+#include "../board/board.h"
 
 /* The console's limits, in the words of its paper. */
 enum {

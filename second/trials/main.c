@@ -19,10 +19,12 @@
    second --bill                   prints the totals of the records of hires on standard input
    second --bills SEED N           writes N records of hires to standard output
    second --bills SEED N D         the same with one damage, D cut or past
-   Built with: cc -std=c11 -O3 -Wall -Wextra -Wpedantic -o second *.c */
+   README.md of the folder above says how it is built. */
+#include "../board/hire.h"
+#include "../board/replay.h"
+#include "bills.h"
 #include "console.h"
-#include "hire.h"
-#include "replay.h"
+#include "recording.h"
 #include "word.h"
 
 #include <inttypes.h>
