@@ -147,3 +147,14 @@ kept hs b =
     let i = step (held hs) false (so-far hs b) b in
     let t = i .ticks-so in
     record { count = i .count-so; ticks = omega arith; first = i .first-so; last = i .last-so }
+
+-- where nothing comes or goes, nothing changes
+alike : (count ticks first last : ℕ) (holds : Bool) (tick : ℕ)
+    → withTick (record { count = count; ticks = ticks; first = first; last = last; holds = holds }) holds tick
+    ≡ record { count = count; ticks = ticks; first = first; last = last; holds = holds }
+unfolding withTick
+alike count ticks first last true tick = refl
+alike count ticks first last false tick = refl
+
+pub unchanged : (s : Spells) (tick : ℕ) → withTick s (s .holds) tick ≡ s
+unchanged s tick = alike (s .count) (s .ticks) (s .first) (s .last) (s .holds) tick
