@@ -1,4 +1,6 @@
 // What a request is answered, from the pack and the hire that it is asked of, into a lent buffer. Nothing is changed here.
+#![tactic(auto)]
+
 mod length;
 mod registers;
 
@@ -21,14 +23,14 @@ use settings::{Settings, Written};
 use writes::Form;
 
 // A register's value; a number outside the three ranges has none.
-#[derive(Drop)]
+#[derive(Clone, Copy)]
 pub enum Shown {
     Register(u16),
     Nothing,
 }
 
 // What a request asks, what it comes to, and the settings that then stand.
-#[derive(Drop)]
+#[derive(Clone, Copy)]
 pub struct Told {
     pub asked: Request,
     pub outcome: Outcome,

@@ -1,4 +1,6 @@
 // Records of the desk on standard input; their count and exact totals on standard output, a line each, and how it went on standard error.
+#![tactic(auto)]
+
 ghost use Rattle.std.specs.Prelude.{◌≤◌, length};
 
 use desk::RECORD;
@@ -13,7 +15,7 @@ const INPUT: i32 = 0;
 const BLOCK: usize = 2048 * RECORD;
 
 // What the records come to, and whether they were read up to their end or to the one that is refused.
-#[derive(Drop)]
+#[derive(Clone, Copy)]
 struct Reading {
     billed: Billed,
     is_read: bool,

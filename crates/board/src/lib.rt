@@ -1,6 +1,8 @@
 // The board of one pack: a state that goes in by value and comes back. It takes a tick every 100 ms, a frame for each request,
 // or the bytes of the raw line as they come, and a handover between two riders; its events are saved and loaded, a partner's cabinet reads its
 // registers, its settings are kept by hire class and recalled; what it shows can be read at any time.
+#![tactic(auto)]
+
 mod area;
 mod frame;
 mod line;
@@ -22,21 +24,21 @@ use refusals::Outcome;
 use settings::Settings;
 
 #[repr(C)]
-#[derive(Drop)]
+#[derive(Clone, Copy)]
 pub struct Board {
     pub pack: Pack, // all that a handover keeps
     pub hire: Hire, // what one rider did and saw
 }
 
 // What a call gives back: what it came to, and the board after it.
-#[derive(Drop)]
+#[derive(Clone, Copy)]
 pub struct Answer {
     pub outcome: Outcome,
     pub board: Board,
 }
 
 // What an offer gives back: what it came to, how many of its bytes were taken, and the board after it.
-#[derive(Drop)]
+#[derive(Clone, Copy)]
 pub struct Heard {
     pub outcome: Outcome,
     pub taken: usize,
@@ -44,7 +46,7 @@ pub struct Heard {
 }
 
 // What a keep gives back: what it came to, the new edition, 0 where there is none, and the board as it was.
-#[derive(Drop)]
+#[derive(Clone, Copy)]
 pub struct Stored {
     pub outcome: Outcome,
     pub edition: u32,

@@ -1,4 +1,6 @@
 // What a partner's charging cabinet reads: the registers 0x1000 to 0x1013, of what one tick read and of nothing else.
+#![tactic(auto)]
+
 ghost use Rattle.std.specs.Prelude.{◌≡◌, cond, ◌+◌, ◌/◌, ◌%◌, ◌≤◌, min};
 ghost use Rattle.signed.specs.Signed.{bits_of};
 ghost use Rattle.readings.specs.Readings.{connected};
@@ -9,7 +11,7 @@ use readings::Readings;
 use refusals::{Outcome, Refusal};
 
 // What a tick read, as far as a cabinet asks for it.
-#[derive(Drop)]
+#[derive(Clone, Copy)]
 pub struct Measured {
     pub current: i32, // m_a, charging positive
     pub internal: i16, // 0.1 °C, as both externals

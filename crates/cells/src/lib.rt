@@ -1,11 +1,13 @@
 // What is read off the cells that a tick brings, as 16-bit numbers in 0.1 m_v.
+#![tactic(auto)]
+
 ghost use Rattle.std.specs.Prelude.{◌≡◌, ◌-◌, ◌≤◌, min, max};
 ghost use Rattle.laws.specs.Fold.{bit_of};
 ghost use Rattle.cells.specs.Cells.{kept_of, extremes_of, sum_of, decides, decision_of, millivolts_of};
 
 // The lowest and the highest cell.
 #[repr(C)]
-#[derive(Drop)]
+#[derive(Clone, Copy)]
 pub struct Extremes {
     pub lowest: u16,
     pub highest: u16,

@@ -1,4 +1,6 @@
 // The CRC that ends every frame: the Modbus CRC, by a table of sixteen numbers, two steps for each byte.
+#![tactic(auto)]
+
 ghost use Rattle.std.specs.Prelude.{◌≡◌};
 ghost use Rattle.crc.specs.Crc.{times, byte_in, crc_of};
 ghost use Rattle.crc.specs.Table.{Shifted};

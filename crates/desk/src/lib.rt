@@ -1,4 +1,6 @@
 // What the desk gets at a handover: the record of one hire, 32 bytes, each number low byte first.
+#![tactic(auto)]
+
 ghost use Rattle.std.specs.Prelude.{◌≡◌};
 ghost use Rattle.desk.specs.Desk.{record_of, Puts};
 
@@ -8,7 +10,7 @@ use refusals::{Outcome, Refusal};
 // How many bytes a record has.
 pub const RECORD: usize = 32;
 
-#[derive(Drop)]
+#[derive(Clone, Copy)]
 pub struct Record {
     pub pack: u32, // the number that the desk gives
     pub seconds: u32, // since the last statistics clear or handover, as all that follows

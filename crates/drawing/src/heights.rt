@@ -6,7 +6,7 @@ use crate::room::less;
 use crate::share::share;
 
 // Heights grow downwards: `high` is at 0, and what lies `span` below it at 1000.
-#[derive(Drop)]
+#[derive(Clone, Copy)]
 pub struct Scale {
     pub high: u64,
     pub span: u64,

@@ -1,6 +1,8 @@
 // Where things stand in a picture of columns: heights on a scale, the outline of a band, the runs of a bit, and the marks of the time
 // axis. It knows no board, and of a page the letters of a path alone. All numbers are unsigned: a reading that may be negative is lifted
 // by whoever reads it. A text that has no room is not put at all, and the place stays.
+#![tactic(auto)]
+
 ghost use Rattle.std.specs.Prelude.{◌≡◌, min, max};
 ghost use Rattle.drawing.specs.Heights.{scale_of, open_scale_of};
 

@@ -1,5 +1,7 @@
 // The board for firmware in C: every call of the board and what it shows, under plain names. The board goes in and comes back by value; what
 // was lent is an address and a length. firmware/slatecauseway.h has the same names, and verbs over them that take the board by its address.
+#![tactic(auto)]
+
 ghost use Rattle.std.specs.Prelude.{◌≡◌, length};
 ghost use Rattle.board.specs.Promises.{ShowsCharge, ShowsDischarge, ShowsDecision, ShowsBalancing};
 ghost use Rattle.board.specs.Start.{start_of};
@@ -15,7 +17,7 @@ use refusals::Outcome;
 
 // What a call tells: its number, the register of a 44, what else it gives (how many bytes an offer took, the edition of a keep), the board.
 #[repr(C)]
-#[derive(Drop)]
+#[derive(Clone, Copy)]
 pub struct Told {
     pub number: u8,
     pub which: u16,
@@ -25,7 +27,7 @@ pub struct Told {
 
 // A register's value, where there is one.
 #[repr(C)]
-#[derive(Drop)]
+#[derive(Clone, Copy)]
 pub struct Word {
     pub value: u16,
     pub is: bool,

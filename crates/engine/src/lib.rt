@@ -1,6 +1,8 @@
 // The plain engine: what is latched after the first ticks of a recording, each condition found by itself by looking back through the
 // records. Nothing is carried from tick to tick and there is no timer. It is slow and plain on purpose, so that a mechanic can read it.
 // The settings are given, and are the same at every tick.
+#![tactic(auto)]
+
 ghost use Rattle.std.specs.Prelude.{◌≡◌, ◌*◌, ◌-◌, ◌<◌, min, take};
 ghost use Rattle.laws.specs.History.{some, stands, waits};
 ghost use Rattle.cells.specs.Cells.{extremes_of};

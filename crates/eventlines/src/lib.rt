@@ -1,5 +1,7 @@
 // A line for each event of a tick, put into a buffer from a place on; each function gives the place after. Lines that have no room there
 // are not put at all, and the place stays.
+#![tactic(auto)]
+
 ghost use Rattle.std.specs.Prelude.{◌≡◌, ◌+◌, ◌≤◌, length};
 ghost use Rattle.text.specs.Digits.{Put, Wrote};
 ghost use Rattle.eventlines.specs.EventLines.{line_of, lines_of};

@@ -1,4 +1,6 @@
 // The events that the board keeps: the latest, oldest first, and which of them are new.
+#![tactic(auto)]
+
 mod area;
 
 ghost use Rattle.std.specs.Prelude.{cond, ◌≡◌, ◌+◌, ◌-◌, ◌≤◌, min, eqb};
@@ -20,14 +22,14 @@ const WORDS: usize = 127;
 
 // As it is sent: three time bytes and the event's number, low byte first. All zeros where there is none.
 #[repr(C)]
-#[derive(Drop)]
+#[derive(Clone, Copy)]
 pub struct Event {
     pub bytes: u32,
 }
 
 // The places that are used are the last ones: `kept` of them, of which the last `unsent` are new.
 #[repr(C)]
-#[derive(Drop)]
+#[derive(Clone, Copy)]
 pub struct Events {
     pub list: [Event; CAPACITY],
     pub kept: u8,
@@ -35,7 +37,7 @@ pub struct Events {
 }
 
 // What a load comes to, and the events after it.
-#[derive(Drop)]
+#[derive(Clone, Copy)]
 pub struct Loaded {
     pub outcome: Outcome,
     pub events: Events,

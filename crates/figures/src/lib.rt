@@ -1,5 +1,7 @@
 // Figures, times and durations as they are printed, put into a buffer from a place on; each function gives the place after. A text that has
 // no room there is not put at all, and the place stays. A tick is a tenth of a second.
+#![tactic(auto)]
+
 ghost use Rattle.std.specs.Prelude.{true, false, ◌≡◌, ◌+◌, ◌^◌, ◌≤◌, length};
 ghost use Rattle.text.specs.Digits.{digit, Put, Wrote};
 ghost use Rattle.figures.specs.Figures.{comma_text, grouped_text, count_text, whole_text, last_digits, decimals_text};

@@ -1,5 +1,7 @@
 // The seven conditions that the board guards against: what holds, what recovers, what is latched and for how long, which sensors
 // are remembered meanwhile, and which switches and events each names.
+#![tactic(auto)]
+
 ghost use Rattle.std.specs.Prelude.{◌≡◌, pos, neg_ℤ, ◌+ℤ◌, ◌-ℤ◌, ◌*ℤ◌};
 ghost use Prim.Native.Nat.{◌*◌, ◌-◌};
 ghost use Rattle.guard.specs.Guard.{cells_low_enough, hot, cool, cold, mild, sensor_hot, with_connected, remembered_cool, while_latched, external_cold, externals_mild};
@@ -11,7 +13,7 @@ use readings::Readings;
 use settings::Settings;
 
 // Document 01's table, a row each.
-#[derive(Drop)]
+#[derive(Clone, Copy)]
 pub enum Condition {
     UV,
     OV,
@@ -24,7 +26,7 @@ pub enum Condition {
 
 // A yes or no for each condition: that it holds, that it recovers, or that it is latched.
 #[repr(C)]
-#[derive(Drop)]
+#[derive(Clone, Copy)]
 pub struct Conditions {
     pub uv: bool,
     pub ov: bool,
@@ -37,7 +39,7 @@ pub struct Conditions {
 
 // The ticks that are left to wait.
 #[repr(C)]
-#[derive(Drop)]
+#[derive(Clone, Copy)]
 pub struct Waits {
     pub doc: u32,
     pub coc: u32,
@@ -45,7 +47,7 @@ pub struct Waits {
 }
 
 // The numbers of a condition's events.
-#[derive(Drop)]
+#[derive(Clone, Copy)]
 pub struct Numbers {
     pub latching: u8,
     pub recovery: u8,
@@ -53,14 +55,14 @@ pub struct Numbers {
 
 // Which externals were connected at any tick since OT latched; none while it is not latched. The internal sensor always is.
 #[repr(C)]
-#[derive(Drop)]
+#[derive(Clone, Copy)]
 pub struct Remembered {
     pub external1: bool,
     pub external2: bool,
 }
 
 #[repr(C)]
-#[derive(Drop)]
+#[derive(Clone, Copy)]
 pub struct Guard {
     pub latched: Conditions,
     pub waits: Waits,

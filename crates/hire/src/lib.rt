@@ -1,4 +1,6 @@
 // The hire: what one rider did and saw. A handover makes a new one, so nothing in it outlives the rider.
+#![tactic(auto)]
+
 mod registers;
 mod tick;
 
@@ -15,7 +17,7 @@ pub use tick::{EVENTS, events_of};
 
 // What the last tick read, as it was read.
 #[repr(C)]
-#[derive(Drop)]
+#[derive(Clone, Copy)]
 pub struct Sensed {
     pub readings: Readings,
     pub cells: [u16; 16], // 0.1 m_v
@@ -24,7 +26,7 @@ pub struct Sensed {
 }
 
 #[repr(C)]
-#[derive(Drop)]
+#[derive(Clone, Copy)]
 pub struct Hire {
     pub sensed: Sensed,
     pub window: [u16; 10], // the pulses of the last ten ticks, the latest last

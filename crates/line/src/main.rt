@@ -1,4 +1,6 @@
 // A board at one end of a raw serial line, after the recording that is named; bytes on standard input, replies on standard output.
+#![tactic(auto)]
+
 use board::Board;
 use player::{BLOCK, Played, Reading, next_block, on_from, put_progress};
 use streams::{read, tell, tell_failure};

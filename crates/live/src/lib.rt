@@ -1,4 +1,6 @@
 // What is measured at this moment: pack volts and amps, and the speed over the last ten ticks.
+#![tactic(auto)]
+
 ghost use Rattle.std.specs.Prelude.{◌≡◌, pos};
 ghost use Rattle.std.specs.Float.{binary32};
 ghost use Rattle.std.specs.Float.Ieee.{div, of_int};
@@ -7,14 +9,14 @@ ghost use Rattle.live.specs.Live.{exact, live_of, no_live, bits_of, speed_of, sp
 
 // Pack volts and amps, kept together.
 #[repr(C)]
-#[derive(Drop)]
+#[derive(Clone, Copy)]
 pub struct Live {
     pub volts: f32,
     pub amps: f32,
 }
 
 // Speed is either km/h or "no wheel sensor".
-#[derive(Drop)]
+#[derive(Clone, Copy)]
 pub enum Speed {
     NoSensor,
     KmPerHour(f32),

@@ -1,5 +1,7 @@
 // The plain engine beside the board: how many ticks of a recording on standard input, from the first on and up to 600, leave the same
 // latched by both.
+#![tactic(auto)]
+
 use board::Board;
 use guard::Conditions;
 use streams::{put, read_full, tell_failure};

@@ -1,6 +1,6 @@
 -- Numbers as bytes and as registers: low byte first, except in 0x03 and 0x10; in a pair, the lower number holds the low 16 bits.
 -- Assumes nothing.
-use Rattle.std.specs.Prelude.{Bool, cond, List, [], ◌∷◌, ◌≡◌, ℕ, zero, suc, ◌+◌, ◌*◌, ◌^◌, ◌/◌, ◌%◌, eqb, get_or}
+use Rattle.std.specs.Prelude.{cond, List, [], ◌∷◌, ◌≡◌, ℕ, zero, suc, ◌+◌, ◌*◌, ◌^◌, ◌/◌, ◌%◌, eqb, get_or}
 use Rattle.std.proofs.lemmas.List.Edits.{sets}
 
 -- ---- a number as bytes

@@ -1,4 +1,6 @@
 // Numbers as bytes and as registers, and the lesser of two. Any place may be asked: a byte past the end reads 0, and is not put.
+#![tactic(auto)]
+
 ghost use Rattle.std.specs.Prelude.{[], ◌∷◌, ◌≡◌, ◌+◌, min, length, get_or};
 ghost use Rattle.numbers.specs.Numbers.{low_first_or, le16_at, le32_at, le64_at, be16_at, le16, le32, le64, be16, Wrote, low_half, high_half, half_of};
 

@@ -1,5 +1,7 @@
 // The pack: all that a handover keeps. Start numbers, settings, the lifetime with its tenths, latched conditions, waits and
 // remembered sensors.
+#![tactic(auto)]
+
 ghost use Rattle.std.specs.Prelude.{◌≡◌};
 ghost use Rattle.pack.specs.Pack.{usable, new_pack, later_of, time_of, conditions_of, with_settings, start_outcome, tick_outcome};
 
@@ -11,14 +13,14 @@ use settings::Settings;
 
 // The lifetime, with its tenths.
 #[repr(C)]
-#[derive(Drop)]
+#[derive(Clone, Copy)]
 pub struct Clock {
     pub seconds: u32,
     pub tenths: u8,
 }
 
 #[repr(C)]
-#[derive(Drop)]
+#[derive(Clone, Copy)]
 pub struct Pack {
     pub settings: Settings,
     pub guard: Guard,

@@ -1,4 +1,6 @@
 // The board at one end of a raw serial line: bytes go in as they come, and what goes out is each frame's reply and nothing else.
+#![tactic(auto)]
+
 ghost use Rattle.std.specs.Prelude.{◌≡◌};
 ghost use Rattle.port.specs.Port.{Answers, served_of};
 
@@ -10,7 +12,7 @@ use streams::put;
 const ROOM: usize = 259;
 
 // How many bytes were taken, how many of the buffer are a reply, and the board after it.
-#[derive(Drop)]
+#[derive(Clone, Copy)]
 pub struct Turn {
     pub taken: usize,
     pub length: usize,
@@ -18,7 +20,7 @@ pub struct Turn {
 }
 
 // The board after what came, and whether every reply is written.
-#[derive(Drop)]
+#[derive(Clone, Copy)]
 pub struct Listened {
     pub board: Board,
     pub is_written: bool,

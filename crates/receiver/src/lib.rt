@@ -1,5 +1,7 @@
 // A receiver for the raw line: it takes bytes up to the end of the first complete frame and holds that frame.
 // Every value is safe: a count past 264 means 264.
+#![tactic(auto)]
+
 ghost use Rattle.std.specs.Prelude.{false, ◌≡◌, ◌≤◌, ◌<◌, length, take};
 ghost use Rattle.receiver.specs.Receiver.{held_of, complete, is_held, no_bytes, offered_of};
 ghost use Rattle.receiver.specs.Taking.{Takes};
@@ -12,14 +14,14 @@ pub const ROOM: usize = 264;
 
 // The first `count` bytes have come of a frame: none, an unfinished one, or a complete one, which is held.
 #[repr(C)]
-#[derive(Drop)]
+#[derive(Clone, Copy)]
 pub struct Receiver {
     pub bytes: [u8; ROOM],
     pub count: u16,
 }
 
 // What an offer comes to, how many bytes it took, and the receiver after it.
-#[derive(Drop)]
+#[derive(Clone, Copy)]
 pub struct Offered {
     pub outcome: Outcome,
     pub taken: usize,

@@ -1,8 +1,10 @@
 // Why a call is refused, and the number that its caller gets: document 01's table, and what document 02 adds to it.
+#![tactic(auto)]
+
 ghost use Rattle.std.specs.Prelude.{◌≡◌};
 ghost use Rattle.refusals.specs.Refusals.{refusal_number, refusal_register, left_by, number_of, register_of, is_done};
 
-#[derive(Drop)]
+#[derive(Clone, Copy)]
 pub enum Refusal {
     NoRoom, // a reply buffer under 259 bytes
     Foreign, // under 4 bytes, or the first is not 0xAA
@@ -36,14 +38,14 @@ pub enum Refusal {
 }
 
 // What a refusal leaves in a lent reply buffer: zeros alone, or a NACK with its error, and then zeros.
-#[derive(Drop)]
+#[derive(Clone, Copy)]
 pub enum Left {
     Zeros,
     Nack(u8),
 }
 
 // What a call comes to.
-#[derive(Drop)]
+#[derive(Clone, Copy)]
 pub enum Outcome {
     Done,
     Refused(Refusal),

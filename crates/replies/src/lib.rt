@@ -1,5 +1,7 @@
 // Writes a reply into a lent buffer from its start: first its bytes, then `seal`, which ends the frame with zeros after it to the
 // end of the buffer, so nothing lent earlier survives. Any buffer may be lent: past its end nothing is put.
+#![tactic(auto)]
+
 ghost use Rattle.std.specs.Prelude.{cond, [], ◌∷◌, ◌≡◌, take};
 ghost use Rattle.numbers.specs.Numbers.{Wrote};
 ghost use Rattle.replies.specs.Replies.{word16, sealed, nack_of, ack_of, length_byte, Filled, Lengthened};

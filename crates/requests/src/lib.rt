@@ -1,4 +1,6 @@
 // What a request asks: read from its bytes alone, with no length trusted.
+#![tactic(auto)]
+
 ghost use Rattle.std.specs.Prelude.{◌≡◌, ◌-◌, ◌≤◌};
 ghost use Rattle.requests.specs.Requests.{expect, expected_of, expected_in, length_of, in_one_range, cleared_by, clear_fields, block_fields, address_at, all_shown, list_fields, write_fields, kind_of, settings_fields, fields_of, is_unknown, right_length, wrong_length_by, foreign, damaged, request_of, command_of, has_length, high_first, marks, word_count};
 
@@ -8,7 +10,7 @@ use settings::Kind;
 use writes::Form;
 
 // A request that changes nothing but 0x11's mark. A reply to it is a head and words of sixteen bits.
-#[derive(Drop)]
+#[derive(Clone, Copy)]
 pub enum Query {
     Registers { command: u8, at: u16, count: u8 }, // 0x03 and 0x07
     Listed { count: u8 }, // 0x09; its addresses are the request's own bytes
@@ -21,7 +23,7 @@ pub enum Query {
 }
 
 // What a command byte stands for; the fields of some are still to be read.
-#[derive(Drop)]
+#[derive(Clone, Copy)]
 pub enum Command {
     Clear,
     Block,
@@ -34,21 +36,21 @@ pub enum Command {
 }
 
 // The length of a command's request, and what it asks.
-#[derive(Drop)]
+#[derive(Clone, Copy)]
 pub struct Expected {
     pub length: usize,
     pub command: Command,
 }
 
 // What a request asks by its fields, and whether each keeps its rule.
-#[derive(Drop)]
+#[derive(Clone, Copy)]
 pub struct Fields {
     pub good: bool,
     pub asks: Request,
 }
 
 // What a whole request comes to: a refusal, or what it asks.
-#[derive(Drop)]
+#[derive(Clone, Copy)]
 pub enum Request {
     Refused(Refusal),
     ClearEvents,

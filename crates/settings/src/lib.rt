@@ -1,4 +1,6 @@
 // The twelve settings: their values by register, their ranges, and a write that is taken whole or not at all.
+#![tactic(auto)]
+
 ghost use Rattle.std.specs.Prelude.{◌≡◌, ◌&&◌, ◌+◌, min};
 ghost use Rattle.std.specs.Int.Signed.{le_z};
 ghost use Rattle.laws.specs.Row.{row};
@@ -12,7 +14,7 @@ const WORDS: usize = 127;
 
 // The registers of document 01's list, by their numbers.
 #[repr(C)]
-#[derive(Drop)]
+#[derive(Clone, Copy)]
 pub struct Settings {
     pub r301: u16, // fully discharged, m_v
     pub r303: u16, // early balancing, m_v
@@ -29,7 +31,7 @@ pub struct Settings {
 }
 
 // The kinds that a settings read asks for.
-#[derive(Drop)]
+#[derive(Clone, Copy)]
 pub enum Kind {
     Minimum,
     Maximum,
@@ -38,14 +40,14 @@ pub enum Kind {
 }
 
 // A write under way: what stands, and the values of registers 300 to 399 as they would stand.
-#[derive(Drop)]
+#[derive(Clone, Copy)]
 pub struct Draft {
     pub standing: Settings,
     pub values: [u16; 100],
 }
 
 // What a write came to, and the settings that stand after it.
-#[derive(Drop)]
+#[derive(Clone, Copy)]
 pub struct Written {
     pub outcome: Outcome,
     pub settings: Settings,

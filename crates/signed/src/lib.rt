@@ -1,4 +1,6 @@
 // Signed numbers at the edge of the board: currents and temperatures come signed, and leave as bits or unsigned numbers.
+#![tactic(auto)]
+
 ghost use Rattle.std.specs.Prelude.{◌≡◌, ◌+◌, ◌-◌, ◌/◌, ◌%◌, min, max};
 ghost use Rattle.signed.specs.Signed.{lift, bits_of, from_bits, from_bits32, above, below, lower_of, higher_of, degrees_of};
 

@@ -1,9 +1,11 @@
 // Something that comes and goes, tick by tick: how often it came, at which tick first and last, and how many ticks the spells took that
 // are over.
+#![tactic(auto)]
+
 ghost use Rattle.std.specs.Prelude.{cond, ◌≡◌, ◌+◌, ◌-◌, min};
 ghost use Rattle.spells.specs.Spells.{no_spells, with_tick};
 
-#[derive(Drop)]
+#[derive(Clone, Copy)]
 pub struct Spells {
     pub count: u64,
     pub ticks: u64, // of the spells that are over

@@ -1,4 +1,6 @@
 // What is counted since the last clear: distance, largest currents and cell difference, latchings, temperatures, and the sums of the current.
+#![tactic(auto)]
+
 ghost use Rattle.std.specs.Prelude.{◌≡◌, ◌+◌, ◌-◌, ◌≤◌, min, max};
 ghost use Rattle.laws.specs.Row.{row};
 ghost use Rattle.statistics.specs.Statistics.{ridden_pulses, distance_of, hundreds, count_of, counts_of, with_external, temperatures_shown};
@@ -13,7 +15,7 @@ use readings::Readings;
 const WORDS: usize = 127;
 
 #[repr(C)]
-#[derive(Drop)]
+#[derive(Clone, Copy)]
 pub struct Temperatures {
     pub coldest: i16, // external, 0.1 °C
     pub hottest: i16,
@@ -21,7 +23,7 @@ pub struct Temperatures {
 }
 
 #[repr(C)]
-#[derive(Drop)]
+#[derive(Clone, Copy)]
 pub struct Counts {
     pub uv: u16,
     pub ov: u16,
@@ -33,14 +35,14 @@ pub struct Counts {
 
 // Of the m_a of each tick, exact up to the largest value.
 #[repr(C)]
-#[derive(Drop)]
+#[derive(Clone, Copy)]
 pub struct Sums {
     pub positive: u64,
     pub negative: u64, // as a positive number
 }
 
 #[repr(C)]
-#[derive(Drop)]
+#[derive(Clone, Copy)]
 pub struct Statistics {
     pub temperatures: Temperatures,
     pub counts: Counts,

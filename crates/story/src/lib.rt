@@ -1,4 +1,6 @@
 // What is kept of a recording for its page: what is drawn of each tick, what came and went, and the readings that made it so.
+#![tactic(auto)]
+
 ghost use Rattle.std.specs.Prelude.{◌≡◌};
 ghost use Rattle.story.specs.Story.{condition_at, noted_of};
 

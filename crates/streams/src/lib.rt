@@ -1,5 +1,7 @@
 // The streams of the operating system: reads that say whether they failed, bytes that wait until they are written, and what is told of a
 // failure.
+#![tactic(auto)]
+
 mod input;
 mod output;
 

@@ -10,7 +10,7 @@ const OUTPUT: i32 = 1;
 const MESSAGES: i32 = 2;
 
 // How many bytes wait, and whether all before them are written.
-#[derive(Drop)]
+#[derive(Clone, Copy)]
 pub struct Waiting {
     pub count: usize,
     pub is_well: bool,

@@ -19,7 +19,7 @@ pub(crate) const MOST_REGISTERS: usize = 40;
 const COMMENT: u8 = b'#';
 
 // What a line asks for; the bytes and the cells stand beside it, `count` of them.
-#[derive(Drop)]
+#[derive(Clone, Copy)]
 pub(crate) enum Call {
     Nothing,
     Wrong,

@@ -1,4 +1,6 @@
 // The bench console: calls of the board as lines on standard input, an answer line for each on standard output.
+#![tactic(auto)]
+
 mod calls;
 mod lines;
 mod turns;
@@ -24,7 +26,7 @@ const LAST_END: [u8; 2] = *b"\r\n";
 const STORE: usize = 512;
 
 // The board after the lines of a block, how long the store is, and whether every answer is written.
-#[derive(Drop)]
+#[derive(Clone, Copy)]
 struct Answered {
     board: Board,
     length: usize,

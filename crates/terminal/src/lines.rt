@@ -4,7 +4,7 @@ use answers::Shown;
 use text::{LF, SPACE, put, put_byte, put_bytes, put_decimal, put_word, without_zeros};
 
 // What stands after a call: its number, the register of a 44, the switches, and registers 51 and 52.
-#[derive(Drop)]
+#[derive(Clone, Copy)]
 pub(crate) struct State {
     pub number: u8,
     pub register: u16,

@@ -15,7 +15,7 @@ const FILLING: u8 = 0x5A;
 const SLICE_FILLING: u16 = 0x5A5A;
 
 // The board after a line, and how many bytes of answers wait.
-#[derive(Drop)]
+#[derive(Clone, Copy)]
 pub(crate) struct Turn {
     pub board: Board,
     pub said: usize,

@@ -1,4 +1,6 @@
 // Text: bytes into lines, lines into words and numbers, and numbers into text. It knows of no board and of no call.
+#![tactic(auto)]
+
 mod digits;
 mod lines;
 mod words;

@@ -13,7 +13,7 @@ const TOO_HIGH: u64 = 1000000000000;
 
 // A number and the place after it. One that is missing or wrong takes the rest of the line with it, so that every number
 // after it is missing too, and only the last has to be asked.
-#[derive(Drop)]
+#[derive(Clone, Copy)]
 pub struct Figure {
     pub value: u64,
     pub next: usize,
@@ -21,7 +21,7 @@ pub struct Figure {
 }
 
 // How many words there are to the end of the line, where all are right.
-#[derive(Drop)]
+#[derive(Clone, Copy)]
 pub enum Series {
     Of(usize),
     Wrong,

@@ -1,5 +1,7 @@
 // The lines that tell a bill, put into a buffer from a place on: the count and the totals, a line each, and after a refusal its number. Where
 // they have no room they are not put at all, and the place stays.
+#![tactic(auto)]
+
 ghost use Rattle.std.specs.Prelude.{◌≡◌, ◌+◌, ◌≤◌, length};
 ghost use Rattle.text.specs.Digits.{each_text, Put, Wrote};
 ghost use Rattle.totallines.specs.TotalLines.{line_of, refusal_in, lines_of};

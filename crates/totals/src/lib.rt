@@ -1,4 +1,6 @@
 // What the records of a month come to: their count, and the exact totals of seconds, both sums and distance.
+#![tactic(auto)]
+
 ghost use Rattle.std.specs.Prelude.{◌≡◌, ◌+◌, ltb};
 ghost use Rattle.refusals.specs.Refusals.{is_done, first};
 ghost use Rattle.totals.specs.Totals.{most, no_totals, with_record, is_past, Fits, taken_of, cut_rows, billed_of, so_far, followed_by};
@@ -6,7 +8,7 @@ ghost use Rattle.totals.specs.Totals.{most, no_totals, with_record, is_past, Fit
 use desk::{RECORD, Record};
 use refusals::{Outcome, Refusal};
 
-#[derive(Drop)]
+#[derive(Clone, Copy)]
 pub struct Totals {
     pub count: u64, // of records
     pub seconds: u64,
@@ -16,7 +18,7 @@ pub struct Totals {
 }
 
 // What bytes come to, and the totals up to there.
-#[derive(Drop)]
+#[derive(Clone, Copy)]
 pub struct Billed {
     pub outcome: Outcome,
     pub totals: Totals,

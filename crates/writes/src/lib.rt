@@ -1,4 +1,6 @@
 // What a write holds: its registers, how many there are, and what they make of the settings. Read from a request's bytes alone, with no length trusted.
+#![tactic(auto)]
+
 ghost use Rattle.std.specs.Prelude.{◌&&◌, ◌||◌, ◌≡◌, ◌+◌, ◌-◌, eqb, leb};
 ghost use Rattle.numbers.specs.Numbers.{be16_at};
 ghost use Rattle.writes.specs.Writes.{write_command, pair_at, pairs_of, count_of, well_counted, all_settings, keeps_rules, drafted_of, written_to};
@@ -7,7 +9,7 @@ use numbers::{byte_at, high_first_16, low_first_16};
 use settings::{Draft, Settings, Written, put_value};
 
 // How a write has its registers: 0x10's block, high byte first; 0x0B's block; 0x0D's list of pairs.
-#[derive(Drop)]
+#[derive(Clone, Copy)]
 pub enum Form {
     Modbus,
     Block,
@@ -15,7 +17,7 @@ pub enum Form {
 }
 
 // A register that is written, and its value.
-#[derive(Drop)]
+#[derive(Clone, Copy)]
 pub struct Pair {
     pub at: u32,
     pub value: u16,
