@@ -1,0 +1,6 @@
+-- The values are what their call gives. Assumes nothing.
+use borrow.Author.Rules.{rules}
+use Rattle.settings.proofs.Settings.draft.Goals as goal
+
+pub returns : goal.returns
+returns c = rw c.values.ensures

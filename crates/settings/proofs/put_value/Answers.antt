@@ -1,0 +1,28 @@
+-- One place of the hundred. Assumes nothing.
+use mathlib.Core.Bool.{and-eq-true_iff}
+use Prim.Native.Nat.{◌≤◌}
+use native.Mathlib.Omega.{arith}
+use lib.Dec.{leb}
+use borrow.Author.Tests.{leb-true}
+use borrow.Author.Rules.{rules}
+use Rattle.settings.proofs.put_value.Lts as lts
+use Rattle.settings.proofs.put_value.Goals as goal
+
+-- what the test tells of the address
+inside : (c : lts.Then-at) → (300 ≤ c.args.at) × (c.args.at ≤ 399)
+inside c =
+    let at = c.args.at in
+    let p = (and-eq-true_iff (leb 300 at) (leb at 399)).0 c.if-at.true in
+    (leb-true 300 at p.0, leb-true at 399 p.1)
+
+pub overflow_sub-values : goal.overflow_sub-values
+overflow_sub-values c = (inside c).0
+
+pub bounds-values-at : goal.bounds-values-at
+bounds-values-at c = omega (arith, inside c)
+
+pub returns-then-at : goal.returns-then-at
+returns-then-at c = record { put = rw c.if-at.true }
+
+pub returns-else-at : goal.returns-else-at
+returns-else-at c = record { put = rw c.if-at.false }

@@ -1,0 +1,10 @@
+-- The difference is taken only if there is one. Assumes nothing.
+use Rattle.text.proofs.Writing.{room, no_room}
+use borrow.Author.Rules.{rules}
+use Rattle.text.proofs.digits.has_room.Goals as goal
+
+pub returns-then-at-length : goal.returns-then-at-length
+returns-then-at-length c = let args = c.args in room args.length args.at args.count (search rules)
+
+pub returns-else-at-length : goal.returns-else-at-length
+returns-else-at-length c = let args = c.args in no_room args.length args.at args.count (search rules)

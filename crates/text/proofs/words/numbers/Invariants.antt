@@ -1,0 +1,17 @@
+-- Each turn reads one word more and enters it. Assumes nothing.
+use mathlib.Core.Path.{◌≡◌, refl}
+use Prim.Native.Nat.{◌-◌}
+use borrow.Author.Tests.{not-true, not-false}
+use lib.ListN.{length}
+use Rattle.text.specs.Numbers.{number_of}
+use Rattle.text.proofs.Entering.{Entering, none_entered, one_entered, wrong_word, no_place, all_entered}
+use borrow.Author.Rules.{rules}
+use Rattle.text.proofs.words.numbers.Given as goal
+
+abbrev pub invariant-loop-at : goal.invariant-loop-at
+invariant-loop-at l =
+    (length l.numbers ≡ length l.initial.numbers)
+    × Entering (number_of 65535) l.line l.from l.initial.numbers l.at l.count l.numbers
+
+abbrev pub decreases-loop-at : goal.decreases-loop-at
+decreases-loop-at l = length l.initial.numbers - l.count
