@@ -4,16 +4,13 @@ use mathlib.Core.Bool.{Bool, true, not, cond}
 use mathlib.Core.List.{List, [], ◌∷◌}
 use Prim.Native.Nat.{ℕ, ◌+◌, ◌-◌, ◌≤◌}
 use native.Mathlib.Omega.{arith}
-use lib.ListN.{get_or}
-use borrow.Author.Tests.{not-true, not-false}
 use Rattle.refusals.specs.declared.Refusal.{Refusal}
 use Rattle.refusals.specs.declared.Refusal.TheVariants.{OutOfRange, OutOfOrder}
 use Rattle.refusals.specs.declared.Outcome.TheVariants.{Done, Refused}
 use Rattle.refusals.specs.Refusals.{first}
-use Rattle.settings.specs.Settings.{registers, up_from, fits, judged_of, ordered, settings_of}
+use Rattle.settings.specs.Settings.{registers, up_from, judged_of, ordered, settings_of}
 use Rattle.settings.proofs.Hundred.{fits_by, range_row, on_from, tested}
 use borrow.Author.Rules.{rules}
-use Rattle.settings.proofs.judged.Lts as lts
 use Rattle.settings.proofs.judged.Goals as goal
 
 pub loop-i-init : goal.loop-i-init
@@ -34,30 +31,23 @@ none_left values i past e o =
     (ap (λ (row : Refusal × Bool). first (row ∷ (OutOfOrder, not (ordered (settings_of values))) ∷ []))
     (ap (λ (n : ℕ). range_row values (up_from (300 + i) n)) (sym none) ∙ e))
 
--- least and greatest at the place of a register
-ranged : (c : lts.After-is_in_range invariant-loop decreases-loop)
-    → fits (300 + c.loop-i.i) (get_or c.args.t1 c.loop-i.i 0)
-    ≡ c.is_in_range.result
-ranged c =
-    fits_by c.loop-i.i _ (omega arith) c.values-least.ensures c.values-greatest.ensures c.is_in_range.ensures
-
 pub returns-then-not-is_in_range : goal.returns-then-not-is_in_range
 returns-then-not-is_in_range c =
-    let fitting = ranged c.before ∙ not-true _ c.if-not-is_in_range.true in
-    let values = c.args.t1 in
+    let fitting = fits_by c.loop-i.i _ (omega arith) c.values-least.ensures c.values-greatest.ensures c.is_in_range.ensures ∙ c.if-not-is_in_range.true in
+    let values = c.args.values in
     found values (300 + c.loop-i.i) (sym (tested values c.loop-i.i (omega arith) fitting) ∙ c.loop-i.invariant.1)
 
 pub loop-i-preserved : goal.loop-i-preserved
 loop-i-preserved c =
-    let fitting = ranged c.before ∙ not-false _ c.if-not-is_in_range.false in
-    (search rules, sym (tested c.args.t1 c.loop-i.i (omega arith) fitting) ∙ c.loop-i.invariant.1)
+    let fitting = fits_by c.loop-i.i _ (omega arith) c.values-least.ensures c.values-greatest.ensures c.is_in_range.ensures ∙ c.if-not-is_in_range.false in
+    (search rules, sym (tested c.args.values c.loop-i.i (omega arith) fitting) ∙ c.loop-i.invariant.1)
 
 pub returns-then-ordered : goal.returns-then-ordered
 returns-then-ordered c =
     let o = ap ordered (sym c.of.ensures) ∙ sym c.ordered.ensures ∙ c.if-ordered.true in
-    none_left c.args.t1 c.loop-i.i (omega arith) c.loop-i.invariant.1 o
+    none_left c.args.values c.loop-i.i (omega arith) c.loop-i.invariant.1 o
 
 pub returns-else-ordered : goal.returns-else-ordered
 returns-else-ordered c =
     let o = ap ordered (sym c.of.ensures) ∙ sym c.ordered.ensures ∙ c.if-ordered.false in
-    none_left c.args.t1 c.loop-i.i (omega arith) c.loop-i.invariant.1 o
+    none_left c.args.values c.loop-i.i (omega arith) c.loop-i.invariant.1 o

@@ -1,5 +1,4 @@
 -- Taken whole or not at all. Assumes nothing.
-use borrow.Author.Rules.{rules}
 use Rattle.settings.specs.Settings.{standing_of}
 use Rattle.settings.proofs.Draft.stands.Goals as goal
 

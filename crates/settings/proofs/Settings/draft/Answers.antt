@@ -1,5 +1,4 @@
 -- The values are what their call gives. Assumes nothing.
-use borrow.Author.Rules.{rules}
 use Rattle.settings.proofs.Settings.draft.Goals as goal
 
 pub returns : goal.returns

@@ -1,7 +1,6 @@
 -- The one judgement, of its values. Assumes nothing.
 use mathlib.Core.Path.{ap, ◌∙◌}
 use Rattle.settings.specs.Settings.{judged_of}
-use borrow.Author.Rules.{rules}
 use Rattle.settings.proofs.Settings.judged.Goals as goal
 
 pub returns : goal.returns

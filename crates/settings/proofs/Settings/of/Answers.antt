@@ -2,7 +2,7 @@
 use mir.Syntax.{w16}
 use mir.Facts.{to_z-of_z}
 use Rattle.settings.specs.Settings.{settings_of}
-use borrow.Author.Rules.{rules, sfits_of}
+use borrow.Author.Rules.{sfits_of}
 use Rattle.settings.proofs.Settings.of.Goals as goal
 
 pub returns : goal.returns

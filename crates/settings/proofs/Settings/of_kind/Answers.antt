@@ -1,6 +1,5 @@
 -- By cases on the kind. Assumes nothing.
 use Rattle.settings.specs.Settings.{of_kind}
-use borrow.Author.Rules.{rules}
 use Rattle.settings.proofs.Settings.of_kind.Goals as goal
 
 pub returns-in-Minimum : goal.returns-in-Minimum

@@ -3,7 +3,6 @@ use mir.Syntax.{w16}
 use Rattle.signed.proofs.Read.{read}
 use borrow.Author.Tests.{ne_eqb}
 use Rattle.settings.specs.Settings.{register_of}
-use borrow.Author.Rules.{rules}
 use Rattle.settings.proofs.Settings.register.Goals as goal
 
 pub returns-in-301 : goal.returns-in-301

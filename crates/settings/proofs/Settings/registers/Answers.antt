@@ -1,9 +1,6 @@
 -- The loop fills the words one after the other. Assumes nothing.
-use Prim.Native.Nat.{◌+◌, ◌-◌}
 use native.Mathlib.Omega.{arith}
-use Rattle.laws.proofs.Rows.{Filling, begun, next, done}
-use Rattle.settings.specs.Settings.{register_of}
-use borrow.Author.Rules.{rules}
+use Rattle.laws.proofs.Rows.{begun, next, done}
 use Rattle.settings.proofs.Settings.registers.Goals as goal
 
 pub loop-i-init : goal.loop-i-init

@@ -1,9 +1,7 @@
 -- The loop fills the words one after the other. Assumes nothing.
 use Prim.Native.Nat.{◌+◌, ◌-◌}
-use native.Mathlib.Omega.{arith}
-use Rattle.laws.proofs.Rows.{Filling, begun, next, done}
+use Rattle.laws.proofs.Rows.{Filling}
 use Rattle.settings.specs.Settings.{register_of}
-use borrow.Author.Rules.{rules}
 use Rattle.settings.proofs.Settings.registers.Given as goal
 
 abbrev pub invariant-loop-i : goal.invariant-loop-i

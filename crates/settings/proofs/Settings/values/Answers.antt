@@ -2,7 +2,6 @@
 use mir.Syntax.{w16}
 use Rattle.signed.proofs.Read.{read}
 use Rattle.settings.specs.Settings.{register_of, registers, values_of}
-use borrow.Author.Rules.{rules}
 use Rattle.settings.proofs.Settings.values.Goals as goal
 
 pub returns : goal.returns
