@@ -1,6 +1,5 @@
 -- The word at its place. Assumes nothing.
 use Rattle.requests.specs.Requests.{address_at}
-use borrow.Author.Rules.{rules}
 use Rattle.requests.proofs.address_at.Goals as goal
 
 pub returns : goal.returns

@@ -1,10 +1,7 @@
 -- Each turn asks one address more. Assumes nothing.
-use mathlib.Core.Path.{◌≡◌, refl}
+use mathlib.Core.Path.{◌≡◌}
 use Prim.Native.Nat.{◌≤◌, ◌-◌}
-use native.Mathlib.Numerals.{add-one}
-use native.Mathlib.Omega.{arith}
 use Rattle.requests.specs.Requests.{all_shown}
-use borrow.Author.Rules.{rules}
 use Rattle.requests.proofs.are_all_shown.Given as goal
 
 abbrev pub invariant-loop-i : goal.invariant-loop-i

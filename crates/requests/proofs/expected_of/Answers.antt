@@ -1,7 +1,6 @@
 -- By cases on the command, each arm against its line of the definition. Assumes nothing.
 use borrow.Author.Tests.{ne_eqb}
 use Rattle.requests.specs.Requests.{expected_of}
-use borrow.Author.Rules.{rules}
 use Rattle.requests.proofs.expected_of.Goals as goal
 
 pub returns-in-2 : goal.returns-in-2

@@ -1,6 +1,5 @@
 -- By cases on the command, each arm's calls against its line of the definition. Assumes nothing.
 use Rattle.requests.specs.Requests.{fields_of}
-use borrow.Author.Rules.{rules}
 use Rattle.requests.proofs.fields_of.Goals as goal
 
 pub returns-in-Clear : goal.returns-in-Clear

@@ -1,5 +1,4 @@
 -- The code's test is the definition's. Assumes nothing.
-use borrow.Author.Rules.{rules}
 use Rattle.requests.proofs.is_wrong_length.Goals as goal
 
 pub returns : goal.returns

@@ -2,7 +2,6 @@
 use mathlib.Core.Path.{ap}
 use Rattle.requests.specs.declared.Expected.{Expected}
 use Rattle.requests.specs.Requests.{length_of}
-use borrow.Author.Rules.{rules}
 use Rattle.requests.proofs.length_of.Goals as goal
 
 pub returns : goal.returns

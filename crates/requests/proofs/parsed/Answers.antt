@@ -3,7 +3,6 @@ use mathlib.Core.Path.{◌≡◌, refl, sym, ◌∙◌}
 use mathlib.Core.Bool.{Bool, true, false, not, cond}
 use mathlib.Core.List.{List, [], ◌∷◌}
 use Prim.Native.Nat.{ℕ}
-use borrow.Author.Rules.{rules}
 use Rattle.refusals.specs.declared.Refusal.TheVariants.{Foreign, Damaged, UnknownCommand, WrongLength, WrongField}
 use Rattle.refusals.specs.Refusals.{first}
 use Rattle.requests.specs.declared.Expected.{Expected}
@@ -12,7 +11,6 @@ use Rattle.requests.specs.declared.Request.{Request}
 use Rattle.requests.specs.declared.Request.TheVariants.{Refused}
 use Rattle.requests.specs.Requests.{expected_in, fields_of, fields_in, foreign, damaged, is_unknown, unknown_command, wrong_length, wrong_length_by}
 use Rattle.requests.specs.Requests.{asked_of, request_by, request_of}
-use Rattle.requests.proofs.parsed.Lts as lts
 use Rattle.requests.proofs.parsed.Goals as goal
 
 -- one test after the other, and what the fields then ask
@@ -41,18 +39,6 @@ tested s a b p c d e =
     go false false false false true q = refl
     go false false false false false q = refl
 
--- of a request that is ours and whole, by what is expected of it
-whole : (c : lts.After-is_unknown) {u l : Bool} {r : Fields} →
-    let s = c.args.bytes.now in
-    let e = c.expected_in-expected.result in
-    u ≡ c.is_unknown.result → l ≡ wrong_length_by e.length s → r ≡ fields_of e.command s → chain false false u l r ≡ request_of s
-whole c q =
-    tested _
-    (sym c.if-is_foreign.false ∙ c.is_foreign.ensures)
-    (sym c.if-is_damaged.false ∙ c.is_damaged.ensures)
-    c.expected_in-expected.ensures.0
-    (q ∙ c.is_unknown.ensures)
-
 pub returns-then-is_foreign : goal.returns-then-is_foreign
 returns-then-is_foreign c = tested _ (sym c.if-is_foreign.true ∙ c.is_foreign.ensures) refl refl refl refl refl
 
@@ -62,21 +48,49 @@ returns-then-is_damaged c =
     refl refl refl refl
 
 pub returns-then-is_unknown : goal.returns-then-is_unknown
-returns-then-is_unknown c = whole c.before (sym c.if-is_unknown.true) refl refl
+returns-then-is_unknown c =
+    tested _
+    (sym c.if-is_foreign.false ∙ c.is_foreign.ensures)
+    (sym c.if-is_damaged.false ∙ c.is_damaged.ensures)
+    c.expected_in-expected.ensures.0
+    (sym c.if-is_unknown.true ∙ c.is_unknown.ensures)
+    refl
+    refl
 
 pub returns-then-is_wrong_length : goal.returns-then-is_wrong_length
-returns-then-is_wrong_length c = whole c.before.before.before (sym c.if-is_unknown.false) (sym c.if-is_wrong_length.true ∙ c.is_wrong_length.ensures) refl
-
--- of the right length too
-read_out : (c : lts.After-fields_of-read) →
-    let s = c.args.bytes.now in
-    let r = c.fields_of-read.result in
-    cond r.good r.asks (Refused WrongField) ≡ request_of s
-read_out c =
-    whole c.before.before.before.before (sym c.if-is_unknown.false) (sym c.if-is_wrong_length.false ∙ c.is_wrong_length.ensures) c.fields_of-read.ensures
+returns-then-is_wrong_length c =
+    tested _
+    (sym c.if-is_foreign.false ∙ c.is_foreign.ensures)
+    (sym c.if-is_damaged.false ∙ c.is_damaged.ensures)
+    c.expected_in-expected.ensures.0
+    (sym c.if-is_unknown.false ∙ c.is_unknown.ensures)
+    (sym c.if-is_wrong_length.true ∙ c.is_wrong_length.ensures)
+    refl
 
 pub returns-then-read : goal.returns-then-read
-returns-then-read c = rw c.if-read.true at (read_out c.before)
+returns-then-read c =
+    let s = c.args.bytes.now in
+    let r = c.fields_of-read.result in
+    let read_out : cond r.good r.asks (Refused WrongField) ≡ request_of s =
+    tested _
+    (sym c.if-is_foreign.false ∙ c.is_foreign.ensures)
+    (sym c.if-is_damaged.false ∙ c.is_damaged.ensures)
+    c.expected_in-expected.ensures.0
+    (sym c.if-is_unknown.false ∙ c.is_unknown.ensures)
+    (sym c.if-is_wrong_length.false ∙ c.is_wrong_length.ensures)
+    c.fields_of-read.ensures in
+    rw c.if-read.true at read_out
 
 pub returns : goal.returns
-returns c = rw c.if-read.false at (read_out c.before)
+returns c =
+    let s = c.args.bytes.now in
+    let r = c.fields_of-read.result in
+    let read_out : cond r.good r.asks (Refused WrongField) ≡ request_of s =
+    tested _
+    (sym c.if-is_foreign.false ∙ c.is_foreign.ensures)
+    (sym c.if-is_damaged.false ∙ c.is_damaged.ensures)
+    c.expected_in-expected.ensures.0
+    (sym c.if-is_unknown.false ∙ c.is_unknown.ensures)
+    (sym c.if-is_wrong_length.false ∙ c.is_wrong_length.ensures)
+    c.fields_of-read.ensures in
+    rw c.if-read.false at read_out

@@ -1,5 +1,4 @@
 -- The code's test is the definition's. Assumes nothing.
-use borrow.Author.Rules.{rules}
 use borrow.Author.Tests.{eq-eqb, ne_eqb}
 use Rattle.requests.proofs.right_length.Goals as goal
 

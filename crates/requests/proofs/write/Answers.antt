@@ -1,5 +1,4 @@
 -- The code's test is the definition's. Assumes nothing.
-use borrow.Author.Rules.{rules}
 use Rattle.requests.proofs.write.Goals as goal
 
 pub returns : goal.returns

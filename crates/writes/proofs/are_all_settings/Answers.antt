@@ -9,7 +9,6 @@ use lib.Dec.{eqb, leb}
 use Rattle.writes.specs.declared.Form.{Form}
 use Rattle.writes.specs.declared.Form.TheVariants as form
 use Rattle.writes.specs.Writes.{pair_at, pairs_of, all_settings, between}
-use borrow.Author.Rules.{rules}
 use Rattle.writes.proofs.are_all_settings.Goals as goal
 
 -- so many registers from the first on lie there, and so does the next

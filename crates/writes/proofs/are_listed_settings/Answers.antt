@@ -1,9 +1,7 @@
 -- Each turn asks one register more. Assumes nothing.
 use mathlib.Core.Path.{◌≡◌, refl}
-use Prim.Native.Nat.{◌≤◌, ◌-◌}
 use native.Mathlib.Numerals.{add-one}
 use native.Mathlib.Omega.{arith}
-use Rattle.writes.specs.declared.Form.TheVariants as form
 use Rattle.writes.specs.Writes.{pair_at, pairs_of, all_settings}
 use borrow.Author.Rules.{rules}
 use Rattle.writes.proofs.are_listed_settings.Goals as goal

@@ -1,10 +1,9 @@
 -- Each turn puts one register more. Assumes nothing.
 use mathlib.Core.Path.{◌≡◌, refl}
-use Prim.Native.Nat.{◌≤◌, ◌-◌}
 use native.Mathlib.Numerals.{add-one}
 use native.Mathlib.Omega.{arith}
 use Rattle.writes.specs.Writes.{pairs_of, drafted_of}
-use Rattle.settings.proofs.Drafts.{holding, put_among}
+use Rattle.settings.proofs.Drafts.{put_among}
 use borrow.Author.Rules.{rules}
 use Rattle.writes.proofs.drafted.Goals as goal
 

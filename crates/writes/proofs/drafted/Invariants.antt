@@ -1,11 +1,8 @@
 -- Each turn puts one register more. Assumes nothing.
-use mathlib.Core.Path.{◌≡◌, refl}
+use mathlib.Core.Path.{◌≡◌}
 use Prim.Native.Nat.{◌≤◌, ◌-◌}
-use native.Mathlib.Numerals.{add-one}
-use native.Mathlib.Omega.{arith}
 use Rattle.writes.specs.Writes.{pairs_of, drafted_of}
-use Rattle.settings.proofs.Drafts.{holding, put_among}
-use borrow.Author.Rules.{rules}
+use Rattle.settings.proofs.Drafts.{holding}
 use Rattle.writes.proofs.drafted.Given as goal
 
 abbrev pub invariant-loop-i : goal.invariant-loop-i

@@ -1,6 +1,5 @@
 -- By cases on the form. Assumes nothing.
 use Rattle.writes.specs.Writes.{well_counted}
-use borrow.Author.Rules.{rules}
 use Rattle.writes.proofs.is_counted.Goals as goal
 
 pub returns-in-Modbus : goal.returns-in-Modbus

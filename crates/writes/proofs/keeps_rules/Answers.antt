@@ -1,5 +1,4 @@
 -- Both calls are the definition's parts. Assumes nothing.
-use borrow.Author.Rules.{rules}
 use Rattle.writes.proofs.keeps_rules.Goals as goal
 
 pub returns : goal.returns

@@ -1,7 +1,6 @@
 -- By cases on the form. Assumes nothing.
 use native.Mathlib.Nat.{add-zero}
 use Rattle.writes.specs.Writes.{pair_at}
-use borrow.Author.Rules.{rules}
 use Rattle.writes.proofs.pair_at.Goals as goal
 
 pub returns-in-Modbus : goal.returns-in-Modbus

@@ -1,5 +1,4 @@
 -- The draft, its registers and its end are what their calls give. Assumes nothing.
-use borrow.Author.Rules.{rules}
 use Rattle.writes.proofs.written.Goals as goal
 
 pub returns : goal.returns

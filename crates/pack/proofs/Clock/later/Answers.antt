@@ -1,6 +1,5 @@
 -- The tests of the code are those of the definition. Assumes nothing.
 use borrow.Author.Tests.{lt-ltb, le-ltb}
-use borrow.Author.Rules.{rules}
 use Rattle.pack.specs.Pack.{later_of}
 use Rattle.pack.proofs.Clock.later.Goals as goal
 

@@ -1,5 +1,4 @@
 -- The guard is what its call gives, and the other fields stay. Assumes nothing.
-use borrow.Author.Rules.{rules}
 use Rattle.pack.specs.Pack.{conditions_of}
 use Rattle.pack.proofs.Pack.guard_conditions.Goals as goal
 

@@ -1,6 +1,5 @@
 -- Settings and guard are what their calls give. Assumes nothing.
 use Rattle.pack.specs.Pack.{new_pack}
-use borrow.Author.Rules.{rules}
 use Rattle.pack.proofs.Pack.new.Goals as goal
 
 pub returns : goal.returns

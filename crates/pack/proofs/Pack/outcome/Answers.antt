@@ -1,6 +1,5 @@
 -- Done, or no board, by the test whether the board is usable. Assumes nothing.
 use mathlib.Core.Path.{sym, ◌∙◌}
-use borrow.Author.Rules.{rules}
 use Rattle.refusals.specs.Refusals.{first}
 use Rattle.pack.specs.Pack.{start_outcome}
 use Rattle.pack.proofs.Pack.outcome.Goals as goal

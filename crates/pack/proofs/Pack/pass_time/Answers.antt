@@ -1,5 +1,4 @@
 -- The clock is what its call gives, and the other fields stay. Assumes nothing.
-use borrow.Author.Rules.{rules}
 use Rattle.pack.specs.Pack.{time_of}
 use Rattle.pack.proofs.Pack.pass_time.Goals as goal
 

@@ -1,8 +1,5 @@
 -- By cases on the query. Assumes nothing.
-use Prim.{tt}
-use mathlib.Core.List.{[], ◌∷◌}
 use Rattle.requests.specs.Requests.{marks}
-use Rattle.requests.proofs.Tags.{by_tag, others}
 use borrow.Author.Rules.{rules}
 use Rattle.requests.proofs.Query.marks.Goals as goal
 
@@ -11,4 +8,5 @@ unfolding marks
 returns-in-NewEvents c = rw c.in-NewEvents.is
 
 pub returns-in_default : goal.returns-in_default
-returns-in_default c = rw ((by_tag c.args.self).2, others (0 ∷ 1 ∷ 2 ∷ 4 ∷ 5 ∷ 6 ∷ 7 ∷ []) 3 _ c.in_default.in_default-own.keys2 tt)
+unfolding marks
+returns-in_default c = search rules

@@ -1,6 +1,5 @@
 -- By cases on the query. Assumes nothing.
 use Rattle.requests.specs.Requests.{word_count}
-use borrow.Author.Rules.{rules}
 use Rattle.requests.proofs.Query.word_count.Goals as goal
 
 pub returns-in-Registers : goal.returns-in-Registers

@@ -1,6 +1,5 @@
 -- By cases on the form. Assumes nothing.
 use Rattle.writes.specs.Writes.{write_command}
-use borrow.Author.Rules.{rules}
 use Rattle.writes.proofs.Form.command.Goals as goal
 
 pub returns-in-Modbus : goal.returns-in-Modbus
