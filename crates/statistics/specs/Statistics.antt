@@ -1,6 +1,6 @@
 -- Statistics since the last clear.
 -- Assumes nothing.
-use Rattle.std.specs.Prelude.{Bool, false, ◌&&◌, ◌||◌, not, cond, ℕ, ◌+◌, ◌*◌, ◌-◌, ◌/◌, ◌%◌, min, max, eqb, ℤ, pos}
+use Rattle.std.specs.Prelude.{Bool, false, ◌&&◌, ◌||◌, not, cond, ℕ, ◌+◌, ◌*◌, ◌-◌, ◌/◌, min, max, eqb, ℤ, pos}
 use Rattle.numbers.specs.Numbers.{low_half, high_half}
 use Rattle.cells.specs.declared.Extremes.{Extremes}
 use Rattle.signed.specs.Signed.{above, below, lower_of, higher_of, degrees_of}
