@@ -8,12 +8,12 @@ use Prim.Native.Nat.{ℕ, zero, suc, ◌+◌, ◌-◌, ◌/◌, ◌%◌, ◌<◌
 use native.Mathlib.Nat.{zero-add, mul-add-div, not-suc-le-zero}
 use native.Mathlib.Numerals.{add-one}
 use native.Mathlib.Omega.{arith}
-use lib.Dec.{ltb, leb}
+use lib.Dec.{ltb}
 use lib.IntN.{ℤ, pos, negsuc, neg_ℤ, sub_ℕ, ◌+ℤ◌}
 use lib.ListN.{length, take, get_or, set, length-append, length-set}
 use lib.Seq.{take-suc-set, take_all, take-append_seam, get_or-take, get_or_at}
 use lib.Signed.{mag}
-use borrow.Author.Tests.{ltb-true, ltb-false, leb-true, leb-false, ne_eqb}
+use borrow.Author.Tests.{ltb-true, ltb-false}
 use Rattle.signed.specs.Signed.{lift, bits_of, above, below}
 use Rattle.readings.specs.Readings.{connected}
 use Rattle.cabinet.specs.declared.Measured.{Measured}
