@@ -15,7 +15,7 @@ use Rattle.refusals.specs.declared.Outcome.{Outcome}
 use Rattle.refusals.specs.declared.Outcome.TheVariants.{Done, Refused}
 use Rattle.refusals.specs.Refusals.{left_by}
 use Rattle.refusals.proofs.Rows.{refused_not}
-use Rattle.events.specs.Events.{new_count, kept_count, kept_of, new_of, event_longs}
+use Rattle.events.specs.Events.{kept_count, new_count, kept_of, new_of, event_longs}
 use Rattle.settings.specs.Settings as settings
 use Rattle.writes.specs.declared.Form.{Form}
 use Rattle.writes.specs.declared.Form.TheVariants as form
@@ -82,8 +82,8 @@ as_sent p h s (Listed n) =
     let bytes : 2 * (2 * n) ≡ 4 * n = omega arith in
     ap₂ (λ (k : ℕ) (l : List ℕ). 0xAA ∷ 0x09 ∷ k ∷ l) bytes (list_words p h s n)
 as_sent p h s (Bare command at n) = ap (λ (l : List ℕ). 0xAA ∷ command ∷ l) (shifted le16 (value_at p h) at n)
-as_sent p h s NewEvents = ap (λ (l : List ℕ). 0xAA ∷ 0x11 ∷ l) (events _ (new_count h.events))
-as_sent p h s AllEvents = ap (λ (l : List ℕ). 0xAA ∷ 0x12 ∷ l) (events _ (kept_count h.events))
+as_sent p h s NewEvents = ap (λ (l : List ℕ). 0xAA ∷ 0x11 ∷ l) (events (event_longs p.clock.seconds (new_of h.events)) (new_count h.events))
+as_sent p h s AllEvents = ap (λ (l : List ℕ). 0xAA ∷ 0x12 ∷ l) (events (event_longs p.clock.seconds (kept_of h.events)) (kept_count h.events))
 as_sent p h s Temperatures = refl
 as_sent p h s Cells = refl
 as_sent p h s (SettingsOf kind n) =

@@ -12,9 +12,7 @@ use Rattle.hire.specs.declared.Hire.{Hire}
 use Rattle.answers.specs.declared.Shown.{Shown}
 use Rattle.answers.specs.declared.Shown.TheVariants.{Register, Nothing}
 use Rattle.answers.specs.Registers.{in_readings, in_statistics, in_settings, shown_at, value_of, value_at}
-use borrow.Author.Rules.{rules}
-use Rattle.answers.proofs.registers.register.Statement.{statement}
-use Rattle.answers.proofs.registers.register.Tie as tie
+use Rattle.answers.proofs.registers.register.Goals as goal
 
 -- one of three values, or none
 abbrev one_of : Bool → Bool → Bool → ℕ → ℕ → ℕ → Shown
@@ -32,24 +30,15 @@ unfolding value_at shown_at
 shown p h at = by_value (in_readings at) (in_statistics at) (in_settings at) (reading_register h p.clock.seconds p.per_km at)
     (statistics.register_of h.statistics p.per_km at) (settings.register_of p.settings at)
 
-is-shown-requires : tie.Need-is-shown-requires
-is-shown-requires c κs = search rules
+pub block-words-requires : goal.block-words-requires
+block-words-requires c = one_is_block c.args.at (sym c.is_shown.ensures ∙ c.if-is_shown.true)
 
-block-requires : tie.Need-block-requires
-block-requires c κs = one_is_block c.before.before.args.at (sym c.before.is-shown.ensures ∙ c.if1.true)
+pub returns-then-is_shown : goal.returns-then-is_shown
+returns-then-is_shown c =
+    let args = c.args in
+    rw (shown args.pack args.hire args.at, ← c.is_shown.ensures, c.if-is_shown.true, first_of (λ i. value_at args.pack args.hire (args.at + i)) c.block-words.ensures, add-zero)
 
-array-read : tie.Need-array-read-t9
-array-read c = search rules
-
-returns : tie.Need-returns
+pub returns : goal.returns
 returns c =
-    let args = c.before.before.before.args in
-    rw (shown args.pack args.hire args.at, ← c.before.before.is-shown.ensures, c.before.if1.true, first_of (λ i. value_at args.pack args.hire (args.at + i)) c.block.ensures, add-zero)
-
-returns-2 : tie.Need-returns-2
-returns-2 c =
-    let args = c.before.before.args in
-    rw (shown args.pack args.hire args.at, ← c.before.is-shown.ensures, c.if1.false)
-
-pub register-spec : {M : Type 1} → statement M
-register-spec = tie.close (tie.spec is-shown-requires block-requires array-read returns returns-2)
+    let args = c.args in
+    rw (shown args.pack args.hire args.at, ← c.is_shown.ensures, c.if-is_shown.false)

@@ -9,9 +9,7 @@ use Rattle.replies.specs.Replies.{Filled}
 use Rattle.pack.specs.declared.Pack.{Pack}
 use Rattle.hire.specs.declared.Hire.{Hire}
 use Rattle.answers.specs.Answers.{accepted_reply, reply_by, asked_outcome, asked_settings, Answers}
-use borrow.Author.Rules.{rules}
-use Rattle.answers.proofs.answer.Statement.{statement}
-use Rattle.answers.proofs.answer.Tie as tie
+use Rattle.answers.proofs.answer.Goals as goal
 
 answers : (p : Pack) (h : Hire) (s : List ℕ) {before after : List ℕ} {q : Request} {w : Written} → q ≡ request_of s
     → w ≡ record { outcome = asked_outcome p s q; settings = asked_settings p s q }
@@ -22,26 +20,8 @@ answers p h s e decided filled =
     let settings = ap (λ (w : Written). w.settings) decided ∙ ap (asked_settings p s) e in
     record {
       told_is = λ i. record { asked = e i; outcome = outcome i; settings = settings i };
-      reply-is = rw (outcome, e) at filled;
+      reply_is = rw (outcome, e) at filled;
     }
 
-parsed-requires : tie.Need-parsed-requires
-parsed-requires c κs = search rules
-
-decide-requires : tie.Need-decide-requires
-decide-requires c κs = search rules
-
-put-reply-requires : tie.Need-put-reply-requires
-put-reply-requires c κs = search rules
-
-same_length : tie.Need-same-length
-same_length c = search rules
-
-returns : tie.Need-returns
-returns c =
-    let reply = c.before.before in
-    let decided = reply.before.before.before in
-    answers _ _ _ decided.before.parsed.ensures decided.decide.ensures reply.put-reply.ensures
-
-pub answer-spec : {M : Type 1} → statement M
-answer-spec = tie.close (tie.spec parsed-requires decide-requires put-reply-requires same_length returns)
+pub returns : goal.returns
+returns c = answers _ _ _ c.parsed-asked.ensures c.decide-decided.ensures c.put_reply.ensures

@@ -1,0 +1,28 @@
+-- The words of the query, then the first two bytes, the length byte, the words and the end. Assumes nothing.
+use Prim.Native.Nat.{◌+◌, ◌*◌, ◌≤◌}
+use native.Mathlib.Omega.{arith}
+use Rattle.requests.specs.Requests.{high_first}
+use Rattle.replies.specs.Replies.{word16}
+use Rattle.answers.specs.Making.{word_of}
+use Rattle.answers.proofs.Made.{within_three, sent}
+use Rattle.answers.proofs.Blocks.{of_row}
+use borrow.Author.Rules.{rules}
+use Rattle.answers.proofs.send.Goals as goal
+
+pub put_words-requires : goal.put_words-requires
+put_words-requires c = let h : c.put_length-from.result ≤ 3 = rw c.put_length-from.ensures.place_is (within_three c.has_length.result) in search rules
+
+pub overflow_add-from : goal.overflow_add-from
+overflow_add-from c = let h : c.put_length-from.result ≤ 3 = rw c.put_length-from.ensures.place_is (within_three c.has_length.result) in search rules
+
+pub seal-requires : goal.seal-requires
+seal-requires c = let h : c.put_length-from.result ≤ 3 = rw c.put_length-from.ensures.place_is (within_three c.has_length.result) in search rules
+
+pub returns : goal.returns
+returns c =
+    let a = c.args in
+    let row =
+    of_row (word16 (high_first a.query)) (word_of a.pack a.hire a.request.now a.query) a.count c.words_of-words.ensures
+    c.requires.1.1 (rw c.high_first.ensures at c.put_words.ensures) in
+    sent a.pack a.hire a.request.now a.query c.has_length.result a.count {to = c.put_length-from.result + 2 * a.count} c.has_length.ensures
+    c.command.ensures c.begin.ensures c.put_length-from.ensures row c.seal.ensures (omega arith) (omega arith)
