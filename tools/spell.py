@@ -20,6 +20,7 @@ TOP = os.path.abspath(words[0] if words else os.path.join(os.path.dirname(os.pat
 CUT = r'\s(){}.;,@"«»`'
 NAME = rf"[^{CUT}]+"
 CAMEL = re.compile(r"[a-z][a-z0-9₀-₉]*(?:[A-Z][A-Za-z0-9₀-₉]*)+'*")
+UNITS = ("mA", "mV", "aF")  # words of the comments, and no names
 FLAGS = r"(?:abbrev |unfoldable |pub |opaque |private |data |record )*"
 DECLARED = re.compile(rf"(?m)^\s*{FLAGS}({NAME})(?: \{{[^{{}}\n]*\}})* :(?=\s)")
 USE = re.compile(r"(?m)^\s*(?:pub )?(?:ghost )?use ([^\s;{]+?)\.?(?:\{([^}]*)\})?(?: as \S+?)?;?$")
@@ -76,7 +77,7 @@ def snake(name):
 table = {}
 for text in list(antt.values()) + list(rust.values()):
     for name in re.findall(NAME, text):
-        if CAMEL.fullmatch(name) and name not in foreign:
+        if CAMEL.fullmatch(name) and name not in foreign and name not in UNITS:
             table[name] = snake(name)
 for name in declared:
     if "-" in name and re.fullmatch(r"[A-Za-z0-9₀-₉'_-]+", name) and name not in foreign and not name.startswith("Need-"):

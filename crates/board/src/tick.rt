@@ -10,7 +10,7 @@ use guard::Conditions;
 use readings::Readings;
 
 impl Board {
-    // The cells in 0.1 m_v, and the other readings. A refusal changes nothing.
+    // The cells in 0.1 mV, and the other readings. A refusal changes nothing.
     pub fn tick(self, cells: &[u16], readings: Readings) -> Answer
         ensures { Answers self (tick cells.now readings) result }
     {

@@ -39,7 +39,7 @@ ends : (average_of (negsuc 32766) (negsuc 32766) ≡ negsuc 32766) × (average_o
 unfolding off bits_of
 ends = (refl, refl, refl, refl, refl)
 
--- sixteen cells of 65,535; 99 tenths of a m_v are not 10 m_v
+-- sixteen cells of 65,535; 99 tenths of a mV are not 10 mV
 volts : map volts_of (1048560 ∷ 100 ∷ 99 ∷ 0 ∷ 4294967295 ∷ []) ≡ 10485 ∷ 1 ∷ 0 ∷ 0 ∷ 65535 ∷ []
 volts = refl
 
@@ -47,21 +47,21 @@ volts = refl
 volts_most : (sum : ℕ) → sum ≤ 1048560 → (volts_of sum ≤ 10485) × (volts_of sum ≡ sum / 100)
 volts_most sum h = (omega arith, omega arith)
 
--- ±1,000,000 m_a are past both ends
+-- ±1,000,000 mA are past both ends
 amps_held : (amps_of (pos 1000000) ≡ pos 32767) × (amps_of (negsuc 999999) ≡ negsuc 32767) × (bits_of (amps_of (negsuc 999999)) ≡ 0x8000)
 unfolding bits_of
 amps_held = (refl, refl, refl)
 
--- the ends themselves: 327,679 and -327,689 m_a still round to them
+-- the ends themselves: 327,679 and -327,689 mA still round to them
 amps_at_the_ends : (amps_of (pos 327669) ≡ pos 32766) × (amps_of (pos 327679) ≡ pos 32767) × (amps_of (negsuc 327678) ≡ negsuc 32766)
     × (amps_of (negsuc 327688) ≡ negsuc 32767)
 amps_at_the_ends = (refl, refl, refl, refl)
 
--- toward zero: -1 m_a is 0, -19 m_a is -1, as 19 m_a is 1
+-- toward zero: -1 mA is 0, -19 mA is -1, as 19 mA is 1
 toward_zero : (amps_of (negsuc 0) ≡ pos 0) × (amps_of (negsuc 18) ≡ negsuc 0) × (amps_of (negsuc 19) ≡ negsuc 1) × (amps_of (pos 19) ≡ pos 1)
 toward_zero = (refl, refl, refl, refl)
 
--- the lent slice of twenty: 33.600 V, -1.5 A, -0.5 and 25.0 °C, cells of 4,200.5 and 4,199.4 m_v, 31.2 °C inside
+-- the lent slice of twenty: 33.600 V, -1.5 A, -0.5 and 25.0 °C, cells of 4,200.5 and 4,199.4 mV, 31.2 °C inside
 read : Measured
 read =
     record {

@@ -12,11 +12,11 @@ use Rattle.readings.specs.declared.Readings.{Readings}
 use Rattle.readings.specs.Readings.{connected}
 use Rattle.cabinet.specs.declared.Measured.{Measured}
 
--- pack voltage in 10 m_v, rounded down, of the exact sum in 0.1 m_v; past any board's 10,485, what sixteen bits hold
+-- pack voltage in 10 mV, rounded down, of the exact sum in 0.1 mV; past any board's 10,485, what sixteen bits hold
 abbrev pub volts_of : ℕ → ℕ
 volts_of sum = min (sum / 100) 65535
 
--- m_a in 10 m_a, rounded toward zero
+-- mA in 10 mA, rounded toward zero
 abbrev pub toward_zero : ℤ → ℤ
 toward_zero (pos n) = pos (n / 10)
 toward_zero (negsuc n) = neg_ℤ (pos (suc n / 10))
@@ -26,7 +26,7 @@ abbrev pub held_to16 : ℤ → ℤ
 held_to16 (pos n) = pos (min n 32767)
 held_to16 (negsuc n) = negsuc (min n 32767)
 
--- current in 10 m_a, rounded toward zero and held to -32768 to 32767
+-- current in 10 mA, rounded toward zero and held to -32768 to 32767
 abbrev pub amps_of : ℤ → ℤ
 amps_of current = held_to16 (toward_zero current)
 

@@ -13,11 +13,11 @@ use refusals::{Outcome, Refusal};
 // What a tick read, as far as a cabinet asks for it.
 #[derive(Clone, Copy)]
 pub struct Measured {
-    pub current: i32, // m_a, charging positive
+    pub current: i32, // mA, charging positive
     pub internal: i16, // 0.1 °C, as both externals
     pub external1: i16, // -32768: not connected
     pub external2: i16,
-    pub sum: u32, // of the cells, exact, in 0.1 m_v as both cells
+    pub sum: u32, // of the cells, exact, in 0.1 mV as both cells
     pub lowest: u16,
     pub highest: u16,
 }

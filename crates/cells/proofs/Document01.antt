@@ -13,7 +13,7 @@ use Rattle.laws.specs.Fold.{gather, bit_of, packed}
 use Rattle.cells.specs.declared.Extremes.{Extremes}
 use Rattle.cells.specs.Cells.{lowest_of, highest_of, extremes_of, decides, decision_of}
 
--- lowest and highest cell, in 0.1 m_v; of none, the highest number that sixteen bits hold, and 0
+-- lowest and highest cell, in 0.1 mV; of none, the highest number that sixteen bits hold, and 0
 abbrev pub lowest : List ℕ → ℕ
 lowest [] = 65535
 lowest (cell ∷ cells) = min cell (lowest cells)

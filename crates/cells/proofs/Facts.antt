@@ -5,7 +5,7 @@ use mathlib.Core.List.{[], ◌∷◌, map}
 use Rattle.laws.specs.Fold.{packed}
 use Rattle.cells.specs.Cells.{decision_of, millivolts_of}
 
--- P13: factory (4000 m_v, 15 m_v), lowest 40,000: 40,150 no, 40,151 balances
+-- P13: factory (4000 mV, 15 mV), lowest 40,000: 40,150 no, 40,151 balances
 pub P13 : (decision_of 4000 15 (40000 ∷ 40150 ∷ 40001 ∷ 40002 ∷ []) ≡ 0) × (decision_of 4000 15 (40000 ∷ 40151 ∷ 40001 ∷ 40002 ∷ []) ≡ 2)
 unfolding packed
 P13 = (refl, refl)

@@ -1,4 +1,4 @@
--- What is read off the cells, given in 0.1 m_v; cell 1 is the first.
+-- What is read off the cells, given in 0.1 mV; cell 1 is the first.
 -- Assumes nothing.
 use Rattle.std.specs.Prelude.{Bool, ◌&&◌, ℕ, ◌+◌, ◌*◌, ◌-◌, ◌/◌, min, max, ltb, length, take, replicate}
 use mathlib.Core.List.{List, ◌++◌, Memᴰ}
@@ -26,7 +26,7 @@ SomeCell Is cells = (cell : ℕ) × Memᴰ cell cells × Is cell
 abbrev pub EveryCell : (ℕ → Type 0) → List ℕ → Type 0
 EveryCell Is cells = (cell : ℕ) → Memᴰ cell cells → Is cell
 
--- the exact sum in 0.1 m_v; a board has at most 16 cells
+-- the exact sum in 0.1 mV; a board has at most 16 cells
 abbrev pub sum_of : List ℕ → ℕ
 sum_of cells = gather ◌+◌ 0 (take 16 cells)
 
@@ -38,6 +38,6 @@ decides r303 r308 lowest cell = ltb (10 * r303) cell && ltb (10 * r308) (cell - 
 abbrev pub decision_of : ℕ → ℕ → List ℕ → ℕ
 decision_of r303 r308 cells = packed (decides r303 r308 (lowest_of cells)) (take 16 cells)
 
--- a cell in m_v, to the nearest, a half going up (W-206)
+-- a cell in mV, to the nearest, a half going up (W-206)
 abbrev pub millivolts_of : ℕ → ℕ
 millivolts_of cell = (cell + 5) / 10

@@ -1,4 +1,4 @@
-// What is read off the cells that a tick brings, as 16-bit numbers in 0.1 m_v.
+// What is read off the cells that a tick brings, as 16-bit numbers in 0.1 mV.
 #![tactic(auto)]
 
 ghost use Rattle.std.specs.Prelude.{◌≡◌, ◌-◌, ◌≤◌, min, max};
@@ -65,7 +65,7 @@ pub fn sum(cells: &[u16]) -> u32
     all
 }
 
-// The balancing decision of up to 16 cells, cell 1 the lowest bit, by the settings r303 and r308 in m_v.
+// The balancing decision of up to 16 cells, cell 1 the lowest bit, by the settings r303 and r308 in mV.
 pub fn decision(cells: &[u16], r303: u16, r308: u16) -> u16
     ensures { result ≡ decision_of r303 r308 cells.now }
 {
@@ -79,7 +79,7 @@ pub fn decision(cells: &[u16], r303: u16, r308: u16) -> u16
     bits
 }
 
-// A cell to the nearest m_v, a half going up.
+// A cell to the nearest mV, a half going up.
 pub fn millivolts(cell: u16) -> u16
     ensures { result ≡ millivolts_of cell }
 {
@@ -117,7 +117,7 @@ fn wide(cell: u16) -> u32
     cell as u32
 }
 
-// The settings are in m_v and the cells in 0.1 m_v.
+// The settings are in mV and the cells in 0.1 mV.
 fn decision_bit(r303: u16, r308: u16, low: u16, cell: u16) -> u16
     ensures { (result ≡ bit_of (decides r303 r308 low cell)) × (result ≤ 1) }
 {

@@ -2,15 +2,12 @@
 -- reads back by itself.
 -- Assumes nothing.
 use mathlib.Core.Path.{◌≡◌, refl, sym, ap, ◌∙◌}
-use mathlib.Core.Bool.{cond}
 use mathlib.Core.List.{List, [], ◌++◌, append-nil}
 use Prim.Native.Nat.{ℕ, ◌+◌}
 use native.Mathlib.Omega.{arith}
 use lib.ListN.{length, drop_of_length-le}
 use lib.Seq.{sets-eq}
-use Rattle.refusals.specs.declared.Outcome.{Outcome}
 use Rattle.refusals.specs.declared.Outcome.TheVariants.{Done}
-use Rattle.refusals.specs.Refusals.{is_done}
 use Rattle.numbers.specs.Numbers.{le32, le64, Wrote}
 use Rattle.numbers.proofs.ReadBack.{stands}
 use Rattle.desk.specs.declared.Record.{Record}

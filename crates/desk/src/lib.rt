@@ -14,8 +14,8 @@ pub const RECORD: usize = 32;
 pub struct Record {
     pub pack: u32, // the number that the desk gives
     pub seconds: u32, // since the last statistics clear or handover, as all that follows
-    pub positive: u64, // the sum of positive m_a
-    pub negative: u64, // the sum of negative m_a, as a positive number
+    pub positive: u64, // the sum of positive mA
+    pub negative: u64, // the sum of negative mA, as a positive number
     pub distance: u32,
     pub latchings: u32, // the sum of registers 105 to 109
 }

@@ -5,7 +5,6 @@ use mathlib.Core.List.{List, [], ◌∷◌, ◌++◌}
 use Prim.Native.Nat.{ℕ, ◌+◌, ◌-◌, ◌<◌, ◌≤◌}
 use native.Mathlib.Omega.{arith}
 use borrow.Author.Tests.{eq-eqb, ne_eqb}
-use lib.Dec.{eqb}
 use lib.ListN.{length, get_or, length-append}
 use Rattle.text.specs.Digits.{decimal_text, Put, Wrote}
 use Rattle.text.proofs.Writing.{none, join, put_wrote, join_put, put_nothing}

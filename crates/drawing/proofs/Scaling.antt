@@ -1,6 +1,6 @@
 -- A share is no more than all parts, and is the same where what is shared is held to the longest whole; a scale from its parts.
 -- Assumes nothing.
-use mathlib.Core.Path.{◌≡◌, refl, ap, ◌∙◌}
+use mathlib.Core.Path.{◌≡◌, ap}
 use Prim.Native.Nat.{ℕ, ◌+◌, ◌-◌, ◌*◌, ◌^◌, ◌/◌, ◌<◌, ◌≤◌, min, max}
 use native.Mathlib.Nat.{mul-le-mul, mul-le-mul_right, div-le_of_le-mul}
 use native.Mathlib.Omega.{arith}

@@ -344,7 +344,7 @@ tells b c =
 abbrev pub telling : Behaviour
 telling = record { State = Board; start = start_board; started = board.started; step = tells }
 
--- 5 m_a at the tick before the last show in nothing but the sum
+-- 5 mA at the tick before the last show in nothing but the sum
 pub telling_fails : ¬ NowhereElse telling
 unfolding accounted
 telling_fails h =

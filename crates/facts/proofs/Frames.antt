@@ -19,7 +19,7 @@ use Rattle.facts.proofs.Calls.{reading_of, shown_by}
 abbrev pub Gets : Board → List ℕ → Outcome → List ℕ → ℕ → Type 0
 Gets b s outcome reply n = (outcome_in b (frame s 259) ≡ outcome) × (buffer_after b (frame s 259) ≡ reply ++ replicate n 0)
 
--- ---- 1.3.1: over_voltage cutoff to 4.2 V, under-voltage cutoff to 2.5 V
+-- ---- 1.3.1: over-voltage cutoff to 4.2 V, under-voltage cutoff to 2.5 V
 
 abbrev write : List ℕ
 write = 0xAA ∷ 0x10 ∷ 0x01 ∷ 0x3B ∷ 0x00 ∷ 0x02 ∷ 0x04 ∷ 0x10 ∷ 0x68 ∷ 0x09 ∷ 0xC4 ∷ 0x19 ∷ 0x61 ∷ []

@@ -1,6 +1,6 @@
--- W-206. Registers 40 and 41, and commands 0x16 and 0x17, round to the nearest m_v; protections, statistics and balancing are unchanged.
+-- W-206. Registers 40 and 41, and commands 0x16 and 0x17, round to the nearest mV; protections, statistics and balancing are unchanged.
 -- The rules of document 01 on cells, currents and temperatures are written again from the paper in cells, guard and statistics (their
--- proofs/Document01), with no definition of ours that might round; here an accepted tick is shown to keep to them, of the cells in 0.1 m_v
+-- proofs/Document01), with no definition of ours that might round; here an accepted tick is shown to keep to them, of the cells in 0.1 mV
 -- that are given to it. Beside our board stands the one that rounds down. Its state is the account of its calls, which is made of these
 -- rules, so from any start and through any calls both are in one state (settings, latches, waits, events, statistics, bits, switches), give
 -- the same outcomes, switches and bits, and the same replies but for the words of registers 40 and 41: only a reply rounds.
@@ -59,7 +59,7 @@ module _ (b : Board) (given : List ℕ) (r : Readings) where
   unfolding shape board_by
   accepted done = ap (board_by b (shape (tick given r))) done
 
-  -- lowest and highest cell, in 0.1 m_v
+  -- lowest and highest cell, in 0.1 mV
   abbrev read : Extremes
   read = record { lowest = lowest given; highest = highest given }
 

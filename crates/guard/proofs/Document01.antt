@@ -1,5 +1,5 @@
--- Document 01's table of conditions, written again from the paper: what holds and what recovers, cells in 0.1 m_v against settings in m_v,
--- currents in m_a against A, temperatures in 0.1 °C against °C; OT recovers by W-204. The definitions that the code meets are this table,
+-- Document 01's table of conditions, written again from the paper: what holds and what recovers, cells in 0.1 mV against settings in mV,
+-- currents in mA against A, temperatures in 0.1 °C against °C; OT recovers by W-204. The definitions that the code meets are this table,
 -- for all settings, readings, lowest and highest cells, waits and remembered sensors: so none of them rounds (W-206).
 -- Assumes nothing.
 use mathlib.Core.Path.{◌≡◌, refl}

@@ -393,7 +393,7 @@ fn less(a: u32, b: u32) -> u32
     if b < a { a - b } else { 0 }
 }
 
-// Limits as signed numbers: the settings are in °C and A, the readings in 0.1 °C and m_a.
+// Limits as signed numbers: the settings are in °C and A, the readings in 0.1 °C and mA.
 
 fn times(factor: u16, setting: u16) -> i32
     requires { Prim.Native.Nat.◌≤◌ factor 1000 }

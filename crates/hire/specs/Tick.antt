@@ -58,8 +58,8 @@ recorded_all seconds events (number ∷ numbers) = recorded_all seconds (recorde
 unfoldable pub record_of : Hire → ℕ → List ℕ → Hire
 record_of h seconds numbers = with_events h (recorded_all seconds h.events numbers)
 
--- 0x9B if any condition but LT is latched; else 0x91 (charger, above 800 m_a), 0x96 (no charger, above 800 m_a), 0x93 (below
--- -800 m_a), 0x97
+-- 0x9B if any condition but LT is latched; else 0x91 (charger, above 800 mA), 0x96 (no charger, above 800 mA), 0x93 (below
+-- -800 mA), 0x97
 unfoldable pub status_for : Conditions → Readings → ℕ
 status_for latched r =
     cond (faulty latched) 0x9B

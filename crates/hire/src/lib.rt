@@ -20,7 +20,7 @@ pub use tick::{EVENTS, events_of};
 #[derive(Clone, Copy)]
 pub struct Sensed {
     pub readings: Readings,
-    pub cells: [u16; 16], // 0.1 m_v
+    pub cells: [u16; 16], // 0.1 mV
     pub extremes: Extremes,
     pub live: Live,
 }

@@ -17,7 +17,7 @@ exact (negsuc n) = negsuc (min 16777215 n)
 abbrev pub quotient : ℤ → ℕ → Float
 quotient n d = div binary32 (of_int binary32 (exact n)) (of_int binary32 (pos d))
 
--- the exact sum in 0.1 m_v divided by 10000, and the m_a divided by 1000, each one division
+-- the exact sum in 0.1 mV divided by 10000, and the mA divided by 1000, each one division
 abbrev pub live_of : ℕ → ℤ → Live
 live_of sum current = record { volts = quotient (pos sum) 10000; amps = quotient current 1000 }
 

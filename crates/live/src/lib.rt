@@ -33,7 +33,7 @@ impl Live {
         }
     }
 
-    // From the exact sum of the cells in 0.1 m_v and the current in m_a.
+    // From the exact sum of the cells in 0.1 mV and the current in mA.
     pub fn measured(sum: u32, current: i32) -> Live
         ensures { result ≡ live_of sum current }
     {

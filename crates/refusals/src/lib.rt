@@ -17,7 +17,7 @@ pub enum Refusal {
     FrameHeld, // an offer while a frame is held
     NoFrameHeld, // a fetch with none held
     WrongCells, // not as many cells as the cell count
-    WrongCurrent, // outside -1,000,000 to 1,000,000 m_a
+    WrongCurrent, // outside -1,000,000 to 1,000,000 mA
     NoInternal, // an internal temperature of -32768
     WrongPulses, // above 400, or above 0 with no wheel sensor
     NoBoard, // a cell count outside 4 to 16

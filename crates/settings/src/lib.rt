@@ -16,11 +16,11 @@ const WORDS: usize = 127;
 #[repr(C)]
 #[derive(Clone, Copy)]
 pub struct Settings {
-    pub r301: u16, // fully discharged, m_v
-    pub r303: u16, // early balancing, m_v
-    pub r308: u16, // disbalance, m_v
-    pub r315: u16, // over_voltage, m_v
-    pub r316: u16, // under-voltage, m_v
+    pub r301: u16, // fully discharged, mV
+    pub r303: u16, // early balancing, mV
+    pub r308: u16, // disbalance, mV
+    pub r315: u16, // over-voltage, mV
+    pub r316: u16, // under-voltage, mV
     pub r317: u16, // discharge over-current, A
     pub r318: u16, // charge over-current, A
     pub r319: u16, // over-heat, °C

@@ -2,7 +2,6 @@
 use mathlib.Core.Bool.{true, false}
 use mathlib.Core.List.{[], ◌∷◌}
 use mathlib.Core.Path.{◌≡◌, refl}
-use Rattle.spells.specs.declared.Spells.{Spells}
 use Rattle.spells.specs.Spells.{with_tick}
 use Rattle.spells.specs.Laws.{after, comings, first_coming, last_coming, ticks_held}
 

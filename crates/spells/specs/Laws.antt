@@ -1,6 +1,6 @@
 -- What is kept is so, whatever comes and goes, up to 2^64 - 1 ticks: how often it came, when first and last, and the ticks at which it
 -- held. proofs/Kept.antt proves `kept`, of any ticks. Assumes nothing.
-use Rattle.std.specs.Prelude.{Bool, true, false, ◌&&◌, not, cond, List, [], ◌∷◌, ◌≡◌, ℕ, suc, ◌+◌, ◌<◌, eqb, length}
+use Rattle.std.specs.Prelude.{Bool, false, ◌&&◌, not, cond, List, [], ◌∷◌, ◌≡◌, ℕ, suc, ◌+◌, eqb, length}
 use Rattle.spells.specs.declared.Spells.{Spells}
 use Rattle.spells.specs.Spells.{no_spells, with_tick}
 

@@ -16,7 +16,7 @@ use Rattle.statistics.specs.declared.Temperatures.{Temperatures}
 use Rattle.statistics.specs.declared.Statistics.{Statistics}
 use Rattle.statistics.specs.Statistics.{hundreds, temperatures_shown, ridden_of, counted_of, register_of}
 
--- negative (as a positive number) and positive current in 100 m_a, rounded down; a register has sixteen bits
+-- negative (as a positive number) and positive current in 100 mA, rounded down; a register has sixteen bits
 abbrev pub drawn : ℤ → ℕ
 drawn (pos n) = 0
 drawn (negsuc n) = min 65535 (suc n / 100)
@@ -74,7 +74,7 @@ module _ (s : Statistics) (pulses : ℕ) (r : Readings) (e : Extremes) (before a
   unfolding register_of ridden_of counted_of
   largest_fed = ap (max s.fed) (fed_is r.current)
 
-  -- 104 largest cell difference, in the 0.1 m_v of the cells
+  -- 104 largest cell difference, in the 0.1 mV of the cells
   pub largest_difference : register_of ticked per_km 104 ≡ max (register_of s per_km 104) (e.highest - e.lowest)
   unfolding register_of ridden_of counted_of
   largest_difference = refl

@@ -1,6 +1,6 @@
 -- Statistics since the last clear.
 -- Assumes nothing.
-use Rattle.std.specs.Prelude.{Bool, false, ◌&&◌, ◌||◌, not, cond, ℕ, ◌+◌, ◌*◌, ◌-◌, ◌/◌, ◌%◌, min, max, eqb, ℤ, pos}
+use Rattle.std.specs.Prelude.{Bool, false, ◌&&◌, ◌||◌, not, cond, ℕ, ◌+◌, ◌*◌, ◌-◌, ◌/◌, min, max, eqb, ℤ, pos}
 use Rattle.numbers.specs.Numbers.{low_half, high_half}
 use Rattle.cells.specs.declared.Extremes.{Extremes}
 use Rattle.signed.specs.Signed.{above, below, lower_of, higher_of, degrees_of}
@@ -21,7 +21,7 @@ ridden_pulses sum pulses = min 281474976710656 (sum + pulses)
 unfoldable pub distance_of : ℕ → ℕ → ℕ
 distance_of pulses per_km = cond (eqb per_km 0) 0 (min 4294967295 (100 * pulses / per_km))
 
--- a current in 100 m_a, rounded down, in sixteen bits
+-- a current in 100 mA, rounded down, in sixteen bits
 abbrev pub hundreds : ℕ → ℕ
 hundreds milliamps = min 65535 (milliamps / 100)
 
@@ -54,7 +54,7 @@ with_external t external =
 unfoldable pub temperatures_shown : Temperatures → ℕ
 temperatures_shown t = cond t.seen (degrees_of t.coldest + 256 * degrees_of t.hottest) 0
 
--- W-214: the positive m_a and the negative m_a (as a positive number), each in 64 bits, stopping at the largest value
+-- W-214: the positive mA and the negative mA (as a positive number), each in 64 bits, stopping at the largest value
 abbrev pub largest_sum : ℕ
 largest_sum = 18446744073709551615
 

@@ -33,7 +33,7 @@ pub struct Counts {
     pub charging: u16, // entries into 0x91
 }
 
-// Of the m_a of each tick, exact up to the largest value.
+// Of the mA of each tick, exact up to the largest value.
 #[repr(C)]
 #[derive(Clone, Copy)]
 pub struct Sums {
@@ -48,9 +48,9 @@ pub struct Statistics {
     pub counts: Counts,
     pub sums: Sums,
     pub pulses: u64, // all since the clear: the distance is told from them, so no remainder can stay behind
-    pub drawn: u16, // largest currents, 100 m_a
+    pub drawn: u16, // largest currents, 100 mA
     pub fed: u16,
-    pub difference: u16, // largest between cells, 0.1 m_v
+    pub difference: u16, // largest between cells, 0.1 mV
     pub cleared: u32, // the lifetime at the clear
 }
 

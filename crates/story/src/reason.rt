@@ -11,7 +11,7 @@ use readings::{Readings, is_connected};
 #[derive(Clone, Copy)]
 pub struct Reason {
     pub place: u8, // of a cell, the first is 1; of a sensor, the board's own is 0; of a current 0
-    pub value: u32, // 0.1 m_v; a temperature lifted over zero; m_a
+    pub value: u32, // 0.1 mV; a temperature lifted over zero; mA
 }
 
 impl Reason {

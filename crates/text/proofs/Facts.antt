@@ -39,7 +39,7 @@ pub signed : (signed_of 32767 (45 ∷ 48 ∷ []) ≡ some 32768)
     × (signed_of 32767 (45 ∷ []) ≡ none)
 signed = (refl, refl, refl, refl, refl)
 
--- a_f is AF; A, G0 and 0AF are no bytes
+-- aF is AF; A, G0 and 0AF are no bytes
 pub bytes : (byte_of (97 ∷ 70 ∷ []) ≡ some 0xAF)
     × (byte_of (65 ∷ []) ≡ none)
     × (byte_of (71 ∷ 48 ∷ []) ≡ none)

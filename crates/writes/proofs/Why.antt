@@ -2,7 +2,7 @@
 -- range, and no lower register ends outside its own; 45 is given exactly where every register ends in its range and the order fails. By the
 -- final values; what is not written is in its range already. Assumes nothing.
 use mathlib.Core.Path.{◌≡◌, refl, sym, ap, ◌∙◌}
-use mathlib.Core.Bool.{Bool, true, false, not, cond, false≢true}
+use mathlib.Core.Bool.{Bool, true, false, cond, false≢true}
 use mathlib.Core.Logic.{◌↔◌}
 use mathlib.Core.List.{List, [], ◌∷◌, map}
 use Prim.Native.Nat.{ℕ, ◌<◌, ◌≤◌}
@@ -14,7 +14,7 @@ use Rattle.refusals.specs.declared.Outcome.TheVariants.{Refused}
 use Rattle.settings.specs.declared.Settings.{Settings}
 use Rattle.settings.specs.Settings as settings
 use Rattle.settings.proofs.Drafts.{AllFit, in_range_is}
-use Rattle.settings.proofs.Why.{Lowest, told_44, told_45}
+use Rattle.settings.proofs.Why.{told_44, told_45}
 use Rattle.writes.specs.declared.Pair.{Pair}
 use Rattle.writes.specs.Writes.{names, last_of, drafted_of, written_to}
 use Rattle.writes.proofs.LastPut.{last_given_lem}

@@ -48,7 +48,7 @@ temperatures_of ts = record { coldest = coldest_of ts; hottest = hottest_of ts; 
 abbrev pub pulses_at : List Deed → ℕ
 pulses_at h = sum (λ t. t.1.pulses) (each ticking (since clears h))
 
--- W-214: the positive m_a and the negative m_a (as a positive number) over accepted ticks since the clear
+-- W-214: the positive mA and the negative mA (as a positive number) over accepted ticks since the clear
 abbrev pub positive_at : List Deed → ℕ
 positive_at h = sum (λ t. above t.1.current) (each ticking (since clears h))
 

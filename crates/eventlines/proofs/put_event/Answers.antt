@@ -1,0 +1,25 @@
+-- The line, if there is room for it. Assumes nothing.
+use mathlib.Core.Path.{sym}
+use Prim.Native.Nat.{◌+◌}
+use native.Mathlib.Omega.{arith}
+use lib.ListN.{length}
+use Rattle.text.proofs.Writing.{put_room, put_none, has}
+use Rattle.eventlines.proofs.put_event.Goals as goal
+
+pub write_event-requires : goal.write_event-requires
+write_event-requires c =
+    let args = c.args in
+    let long = c.line_length in
+    let room = has (args.at + long.result) (length args.out.now) c.has_room.ensures c.if-has_room.true in
+    omega (arith, long.ensures.0)
+
+pub returns-then-has_room : goal.returns-then-has_room
+returns-then-has_room c =
+    let long = c.line_length in
+    put_room long.result c.write_event.ensures (sym long.ensures.0)
+    c.has_room.ensures c.if-has_room.true
+
+pub returns : goal.returns
+returns c =
+    let long = c.line_length in
+    put_none long.result (sym long.ensures.0) c.has_room.ensures c.if-has_room.false

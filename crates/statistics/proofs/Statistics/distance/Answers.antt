@@ -1,0 +1,16 @@
+-- Pulses held to 2^48 give the distance that all pulses give, since past them it stands at its end. Assumes nothing.
+use borrow.Author.Tests.{ne_eqb}
+use borrow.Author.Rules.{rules}
+use Rattle.statistics.specs.Statistics.{distance_of}
+use Rattle.statistics.proofs.Distance.{stopped}
+use Rattle.statistics.proofs.Statistics.distance.Goals as goal
+
+pub returns-then-per_km-eq0 : goal.returns-then-per_km-eq0
+unfolding distance_of
+returns-then-per_km-eq0 c = rw c.if-per_km-eq0.true
+
+pub returns : goal.returns
+unfolding distance_of
+returns c =
+    rw (ne_eqb _ _ c.if-per_km-eq0.false, c.held_to_32_bits.ensures, c.held_pulses.ensures)
+    (stopped _ _ (search rules) (search rules))
