@@ -29,6 +29,7 @@ impl Events {
     }
 
     // The events of the area in the place of these, all of them sent; refused, these as they were.
+    #[tactic(auto, unfolding(crate::specs::Area::load_of))]
     pub fn load(self, area: &[u8]) -> Loaded
         ensures { result ≡ load_of self area.now }
     {
