@@ -13,7 +13,6 @@ use Rattle.guard.specs.Guard.{holds_of, waits_of, recovers_of, latched_of, guard
 use Rattle.guard.specs.Account.{latched_from, waits_from, remembered_from}
 use Rattle.guard.specs.Table.{is, charge_off, discharge_off, faulty, latch_event, recovery_event, event_of}
 use Rattle.live.specs.Live as live
-use Rattle.readings.specs.Readings as readings
 use Rattle.settings.specs.Settings as settings
 use Rattle.signed.specs.Signed as signed
 use Rattle.statistics.specs.Statistics as statistics

@@ -1,7 +1,7 @@
 -- Each public call's promise determines its number, the state and every byte lent to it, refusals too: any two results allowed by it
 -- are equal. And what it determines is the behaviour's step. The promises are those that the functions cite, by their names.
 -- Assumes nothing.
-use mathlib.Core.Path.{◌≡◌, refl, sym, ap, ◌∙◌}
+use mathlib.Core.Path.{◌≡◌, refl, sym, ◌∙◌}
 use mathlib.Core.Bool.{Bool, true, false, cond}
 use mathlib.Core.List.{List, []}
 use Prim.Native.Nat.{ℕ}

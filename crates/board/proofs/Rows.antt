@@ -1,7 +1,7 @@
 -- Each row of a call that the board itself has, computed: a call at which just it applies, and one at which two do. (The rows of readings,
 -- requests, settings and areas: the facts of those crates.) Assumes nothing.
 use mathlib.Core.Path.{◌≡◌, refl}
-use mathlib.Core.List.{List, [], ◌∷◌, map}
+use mathlib.Core.List.{List, [], ◌∷◌}
 use Prim.Native.Nat.{ℕ}
 use lib.ListN.{replicate}
 use Rattle.refusals.specs.Refusals.{number_of}

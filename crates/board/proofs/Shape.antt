@@ -1,20 +1,19 @@
 -- What follows for every call from its shape alone, whatever call it is. Assumes nothing.
 use mathlib.Core.Path.{◌≡◌, refl, sym, ap, ◌∙◌}
-use mathlib.Core.Bool.{Bool, true, false, ◌&&◌, not, cond, and-false, false≢true}
-use mathlib.Core.List.{List, ◌∷◌}
+use mathlib.Core.Bool.{Bool, true, false, not, cond, and-false, false≢true}
+use mathlib.Core.List.{List}
 use Prim.Native.Nat.{ℕ}
-use Rattle.refusals.specs.declared.Refusal.{Refusal}
 use Rattle.refusals.specs.declared.Refusal.TheVariants.{NoBoard}
 use Rattle.refusals.specs.declared.Outcome.{Outcome}
 use Rattle.refusals.specs.declared.Outcome.TheVariants.{Done, Refused}
 use Rattle.refusals.specs.Refusals.{is_done, first}
-use Rattle.refusals.proofs.Rows.{done_is, not_done, off}
+use Rattle.refusals.proofs.Rows.{not_done, off}
 use Rattle.pack.specs.declared.Pack.{Pack}
 use Rattle.pack.specs.Pack as pack
 use Rattle.board.specs.declared.Board.{Board}
 use Rattle.board.specs.declared.Answer.{Answer}
 use Rattle.board.specs.State.{usable}
-use Rattle.board.specs.Calls.{Call, Shape, area_lent, shape, outcome_of, lost, lets_go, board_by, left_of, outcome_in, board_after, answer_to}
+use Rattle.board.specs.Calls.{Call, Shape, area_lent, shape, outcome_of, lets_go, board_by, left_of, outcome_in, answer_to}
 use Rattle.board.specs.Promises.{Leaves, left_in}
 
 -- a test that is not met, and one that is

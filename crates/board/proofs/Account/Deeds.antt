@@ -1,38 +1,34 @@
 -- A history of calls, deed by deed: what holds at the start and is kept by every deed that a call may do, holds after all calls. Which
 -- calls there are does not matter here: each says, by its shape, which deeds it does, and `allowed` that those may be done. Assumes
 -- nothing.
-use mathlib.Core.Path.{◌≡◌, refl, sym, ap, ◌∙◌}
-use mathlib.Core.Bool.{Bool, true, false, not, cond, false≢true}
+use mathlib.Core.Path.{◌≡◌, refl, ◌∙◌}
+use mathlib.Core.Bool.{Bool, true, false, cond}
 use mathlib.Core.List.{List, [], ◌∷◌, ◌++◌}
 use Prim.Native.Nat.{ℕ}
-use lib.Dec.{ltb}
 use lib.ListN.{length}
 use Rattle.laws.specs.History.{any}
 use Rattle.refusals.specs.declared.Refusal.TheVariants.{NoRoom, WrongCells, WrongCurrent, NoInternal, WrongPulses, WrongArea}
 use Rattle.refusals.specs.declared.Refusal.TheVariants.{UsedAfterUnused, NeverRecorded, NoFrameHeld}
-use Rattle.refusals.specs.declared.Outcome.{Outcome}
-use Rattle.refusals.specs.declared.Outcome.TheVariants.{Done, Refused}
+use Rattle.refusals.specs.declared.Outcome.TheVariants.{Done}
 use Rattle.refusals.specs.Refusals.{is_done, first}
-use Rattle.refusals.proofs.Rows.{refused_not, done_is, off}
+use Rattle.refusals.proofs.Rows.{done_is, off}
 use Rattle.classes.proofs.Laws as classes
 use Rattle.events.specs.declared.Event.{Event}
-use Rattle.events.specs.Area.{neither_area, records_in, used_of, parted, never_recorded, load_rows}
+use Rattle.events.specs.Area.{records_in, used_of, never_recorded, load_rows}
 use Rattle.readings.specs.declared.Readings.{Readings}
-use Rattle.readings.specs.Readings.{wrong_cells, wrong_current, no_internal, wrong_pulses, tick_rows}
+use Rattle.readings.specs.Readings.{wrong_cells, wrong_current, no_internal, wrong_pulses}
 use Rattle.requests.specs.declared.Request.{Request}
 use Rattle.requests.specs.declared.Request.TheVariants as request
 use Rattle.requests.specs.Requests.{request_of, marks}
-use Rattle.writes.specs.Writes.{pairs_of}
 use Rattle.answers.specs.Answers.{write_outcome, asked_outcome}
 use Rattle.pack.specs.Pack.{usable_count}
 use Rattle.board.specs.declared.Board.{Board}
 use Rattle.board.specs.Changes.{asked_deeds}
-use Rattle.board.specs.Line.{held_in, holds}
-use Rattle.board.specs.Promises.{request_outcome}
+use Rattle.board.specs.Line.{held_in}
 use Rattle.board.specs.Calls.{Call, tick, frame, handover, offer, fetch, save, load, cabinet, keep, recall}
 use Rattle.board.specs.Calls.{frame_rows, shape, lets_go}
-use Rattle.board.specs.Account.{Deed, took, wrote, cleared, forgot, sent, handed, heard, fetched, loaded, row, settings_at, board_at}
-use Rattle.board.specs.Account.{outcome_at, history_by, calling, deeds_of}
+use Rattle.board.specs.Account.{Deed, took, wrote, cleared, forgot, sent, handed, heard, fetched, loaded, settings_at, board_at}
+use Rattle.board.specs.Account.{outcome_at, calling, deeds_of}
 use Rattle.board.proofs.Shape.{is_done_lem}
 use Rattle.board.proofs.Asked.{by_table}
 

@@ -3,25 +3,21 @@
 -- Assumes nothing.
 use mathlib.Core.Path.{◌≡◌, refl, sym, ap, ap₂, ◌∙◌, subst⁻¹}
 use mathlib.Core.Bool.{Bool, true, false, ◌||◌, ◌&&◌, not, cond, false≢true}
-use mathlib.Core.List.{List, [], ◌∷◌, ◌++◌}
+use mathlib.Core.List.{List, [], ◌∷◌}
 use Prim.Native.Nat.{ℕ}
 use lib.Dec.{eqb, ltb}
-use lib.ListN.{length, replicate}
-use Rattle.refusals.specs.declared.Left.{Left}
+use lib.ListN.{replicate}
 use Rattle.refusals.specs.declared.Refusal.{Refusal}
 use Rattle.refusals.specs.declared.Refusal.TheVariants.{NoRoom, Foreign, FrameHeld, NoFrameHeld, NoBoard}
 use Rattle.refusals.specs.declared.Outcome.{Outcome}
 use Rattle.refusals.specs.declared.Outcome.TheVariants.{Done, Refused}
-use Rattle.refusals.specs.Refusals.{refusal_number, left_by, number_of, is_done, first}
-use Rattle.refusals.proofs.Rows.{refused_not, done_is, not_done}
+use Rattle.refusals.specs.Refusals.{refusal_number, number_of, is_done, first}
+use Rattle.refusals.proofs.Rows.{refused_not, not_done}
 use Rattle.receiver.specs.Receiver.{no_bytes, complete}
 use Rattle.receiver.specs.Heard.{after_hearing}
 use Rattle.receiver.proofs.Heard.{held, is_held_lem, ours}
 use Rattle.receiver.proofs.Through.{none_held}
-use Rattle.requests.specs.Requests.{foreign, request_rows, request_of}
-use Rattle.replies.specs.Replies.{padded}
 use Rattle.pack.specs.Pack.{usable_count, new_pack, start_outcome}
-use Rattle.answers.specs.Answers.{asked_rows, left_reply, refused_reply, reply_by}
 use Rattle.board.specs.declared.Board.{Board}
 use Rattle.board.specs.State.{usable, with_receiver}
 use Rattle.board.specs.Line.{held_in, holds, let_go}
@@ -29,13 +25,12 @@ use Rattle.board.specs.Start.{start_board}
 use Rattle.board.specs.Calls.{Call, tick, frame, handover, offer, fetch, save, load, cabinet, keep, recall}
 use Rattle.board.specs.Calls.{Seen, Lent, nothing_lent, reply_lent, area_lent}
 use Rattle.board.specs.Calls.{frame_rows, shape}
-use Rattle.board.specs.Calls.{outcome_of, nacks, lost, lets_go, board_by, seen_of, outcome_in, board_after, step}
+use Rattle.board.specs.Calls.{outcome_of, nacks, lets_go, board_by, seen_of, outcome_in, board_after, step}
 use Rattle.board.specs.Behaviour.{Behaviour, board, after_in, answers_in}
 use Rattle.board.specs.Account.{Deed, heard_at, held_at, board_at, outcome_at}
-use Rattle.board.specs.Demands.{deeds, LeavesReply, Leaves, without_line, reached, shown, next, Demand1}
-use Rattle.board.specs.Promises.{request_outcome}
-use Rattle.board.proofs.Shape.{none_21, kept, kept_none}
-use Rattle.board.proofs.Asked.{by_table, not_foreign, Blank, Leftover, left_whole, left_blank, no_bytes_lem}
+use Rattle.board.specs.Demands.{deeds, Leaves, without_line, reached, shown, next, Demand1}
+use Rattle.board.proofs.Shape.{none_21, kept}
+use Rattle.board.proofs.Asked.{by_table, not_foreign, Leftover, left_whole, left_blank, no_bytes_lem}
 use Rattle.board.proofs.Deaf.{alike, all_let_go}
 use Rattle.board.proofs.Demands.Demand2.{account}
 

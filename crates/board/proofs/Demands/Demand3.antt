@@ -20,7 +20,7 @@ use Rattle.board.specs.Handover.{handed_over}
 use Rattle.refusals.specs.declared.Outcome.{Outcome}
 use Rattle.refusals.specs.declared.Outcome.TheVariants.{Done}
 use Rattle.refusals.specs.Refusals.{is_done, first}
-use Rattle.board.specs.Calls.{Call, Seen, seen, handover, shape, board_by, seen_of, outcome_in, step}
+use Rattle.board.specs.Calls.{Call, seen, handover, shape, board_by, outcome_in, step}
 use Rattle.board.specs.Behaviour.{Behaviour, board, after_in, answers_in}
 use Rattle.board.specs.Account.{Deed, board_at, clock_at, seconds_at, count_at}
 use Rattle.board.specs.Demands.{deeds, without_record, shown, next, BothQuiet, SameKept, Demand2, Demand3}

@@ -1,8 +1,8 @@
 -- After 300 quiet ticks in a row nothing is latched (30 s is the longest wait); this is to be shown. No wait is left either, and no
 -- sensor remembered: so crate `guard` has it where each wait is at most 300 ticks, and by the settings' ranges each is.
 -- Assumes nothing.
-use mathlib.Core.Path.{◌≡◌, refl, sym, ap, ◌∙◌}
-use mathlib.Core.Bool.{Bool, true, false, and-eq-true_iff}
+use mathlib.Core.Path.{◌≡◌, refl, ap}
+use mathlib.Core.Bool.{true, false, and-eq-true_iff}
 use mathlib.Core.List.{List, [], ◌∷◌}
 use Prim.Native.Nat.{ℕ, zero, suc, ◌*◌, ◌≤◌}
 use native.Mathlib.Omega.{arith}

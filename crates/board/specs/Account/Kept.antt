@@ -10,7 +10,6 @@ use Rattle.readings.specs.declared.Readings.{Readings}
 use Rattle.settings.specs.declared.Settings.{Settings}
 use Rattle.settings.specs.Settings as settings
 use Rattle.signed.specs.Signed.{from_bits}
-use Rattle.writes.specs.declared.Pair.{Pair}
 use Rattle.writes.specs.Writes.{last_of}
 use Rattle.pack.specs.declared.Clock.{Clock}
 use Rattle.board.specs.Deeds.{Deed, row, ticking, writing}

@@ -1,12 +1,12 @@
 -- No board, no room or no frame held leaves zeros; else the held frame's own answer, and nothing held. Assumes nothing.
 use mathlib.Core.Path.{◌≡◌, refl, sym, ap, ◌∙◌}
-use mathlib.Core.Bool.{Bool, true, false, not, cond, false≢true}
-use mathlib.Core.List.{List, [], ◌++◌}
+use mathlib.Core.Bool.{Bool, true, false, not, cond}
+use mathlib.Core.List.{List, []}
 use Prim.Native.Nat.{ℕ}
 use native.Mathlib.Omega.{arith}
 use lib.Dec.{ltb}
 use lib.ListN.{length}
-use Rattle.refusals.specs.declared.Refusal.TheVariants.{NoRoom, NoFrameHeld, NoBoard}
+use Rattle.refusals.specs.declared.Refusal.TheVariants.{NoRoom, NoBoard}
 use Rattle.refusals.specs.declared.Outcome.{Outcome}
 use Rattle.refusals.specs.declared.Outcome.TheVariants.{Done, Refused}
 use Rattle.refusals.specs.Refusals.{is_done, first}
@@ -17,16 +17,14 @@ use Rattle.requests.specs.Requests.{request_of}
 use Rattle.board.specs.declared.Answer.{Answer}
 use Rattle.board.specs.declared.Board.{Board}
 use Rattle.board.specs.State.{usable, with_receiver}
-use Rattle.board.specs.Line.{held_in, holds, let_go}
+use Rattle.board.specs.Line.{held_in, let_go}
 use Rattle.board.specs.Changes.{changed_by}
 use Rattle.receiver.proofs.Held.{front, within, front_length}
 use Rattle.board.specs.Calls.{fetch, frame_rows, shape, lost, outcome_of, board_by, outcome_in}
 use Rattle.board.specs.Promises.{ready_rows, request_outcome, Readied, Leaves, Answered}
 use Rattle.board.proofs.Shape.{not_true_false, not_false_true}
 use Rattle.board.proofs.Asked.{by_table, request_lost, ready_blank, blank, replied}
-use borrow.Author.Rules.{rules}
-use Rattle.board.proofs.Board.fetch.Statement.{statement}
-use Rattle.board.proofs.Board.fetch.Tie as tie
+use Rattle.board.proofs.Board.fetch.Goals as goal
 
 fetched : (b : Board) (room : ℕ) → outcome_in b (fetch room) ≡ and_then (first (ready_rows b room)) (request_outcome b (held_in b))
 unfolding outcome_of shape
@@ -68,87 +66,20 @@ module _ (b : Board) {before after : List ℕ} {o : Outcome} {t : Bool} (told : 
         board = x;
       }) g.answer) g.reply
 
-ready-requires : tie.Need-ready-requires
-ready-requires c κs = search rules
+pub returns-then-not-is_done : goal.returns-then-not-is_done
+returns-then-not-is_done c =
+    unanswered _ c.ready-outcome.ensures c.is_done.ensures (ap not c.if-not-is_done.true) c.with_outcome.ensures
+    (whole c.zero_from.ensures (omega arith))
 
-is-done-requires : tie.Need-is-done-requires
-is-done-requires c κs = search rules
+pub slice_bounds-bytes-end : goal.slice_bounds-bytes-end
+slice_bounds-bytes-end c = within c.args.self.hire.receiver c.length-count.result c.length-count.ensures.0
 
-zero-from-requires : tie.Need-zero-from-requires
-zero-from-requires c κs = search rules
+pub slice_bounds-answered-end : goal.slice_bounds-answered-end
+slice_bounds-answered-end c = front_length c.args.self.hire.receiver c.length-count.result c.length-count.ensures.0
 
-with-outcome-requires : tie.Need-with-outcome-requires
-with-outcome-requires c κs = search rules
-
-same_length : tie.Need-same-length
-same_length c = search rules
-
-returns : tie.Need-returns
+pub returns : goal.returns
 returns c =
-    let zero = c.before.before.before in
-    let then1 = zero.before.before in
-    let tested = then1.before in
-    unanswered _ tested.before.ready.ensures tested.is-done.ensures then1.if1.true c.with-outcome.ensures
-    (whole zero.zero-from.ensures (omega arith))
-
-length-requires : tie.Need-length-requires
-length-requires c κs = search rules
-
-array-share-prefix-bytes : tie.Need-array-share-prefix-bytes
-array-share-prefix-bytes c =
-    let start = c.before.before.before.before.before.before.before in
-    within start.args.self.hire.receiver c.length.result c.length.ensures.0
-
-slice-aggregate-answered : tie.Need-slice-aggregate-answered
-slice-aggregate-answered c =
-    let length = c.before in
-    let start = length.before.before.before.before.before.before.before in
-    front_length start.args.self.hire.receiver length.length.result length.length.ensures.0
-
-answered-requires : tie.Need-answered-requires
-answered-requires c κs = search rules
-
-none-requires : tie.Need-none-requires
-none-requires c κs = search rules
-
-with-receiver-requires : tie.Need-with-receiver-requires
-with-receiver-requires c κs = search rules
-
-with-outcome-requires-2 : tie.Need-with-outcome-requires-2
-with-outcome-requires-2 c κs = search rules
-
-same-length-2 : tie.Need-same-length-2
-same-length-2 c = search rules
-
-returns-2 : tie.Need-returns-2
-returns-2 c =
-    let made = c.before in
-    let answer = made.before.before.before.before in
-    let length = answer.before.before.before in
-    let else1 = length.before.before.before in
-    let tested = else1.before in
-    let start = length.before.before.before.before.before.before.before in
-    answers _ tested.before.ready.ensures tested.is-done.ensures else1.if1.false
-    (rw (front start.args.self.hire.receiver length.length.result length.length.ensures.0) at answer.answered.ensures)
-    (made.with-receiver.ensures ∙ ap (with_receiver answer.answered.result.board) made.before.none.ensures)
-    c.with-outcome2.ensures
-
-pub fetch_spec : {M : Type 1} → statement M
-fetch_spec =
-    tie.close
-    (tie.spec
-    ready-requires
-    is-done-requires
-    zero-from-requires
-    with-outcome-requires
-    same_length
-    returns
-    length-requires
-    array-share-prefix-bytes
-    slice-aggregate-answered
-    answered-requires
-    none-requires
-    with-receiver-requires
-    with-outcome-requires-2
-    same-length-2
-    returns-2)
+    answers _ c.ready-outcome.ensures c.is_done.ensures (ap not c.if-not-is_done.false)
+    (rw (front c.args.self.hire.receiver c.length-count.result c.length-count.ensures.0) at c.answered-answer.ensures)
+    (c.with_receiver.ensures ∙ ap (with_receiver c.answered-answer.result.board) c.none.ensures)
+    c.with_outcome-2.ensures

@@ -1,6 +1,6 @@
 -- A board that is none is refused and writes nothing; else the store is as the keeping of its settings leaves it. Assumes nothing.
 use mathlib.Core.Path.{◌≡◌, refl, sym, ap, ◌∙◌}
-use mathlib.Core.Bool.{Bool, true, false, cond}
+use mathlib.Core.Bool.{true, false, cond, not}
 use mathlib.Core.List.{List}
 use Prim.Native.Nat.{ℕ}
 use Rattle.refusals.specs.declared.Refusal.TheVariants.{NoBoard}
@@ -14,11 +14,9 @@ use Rattle.board.specs.declared.Board.{Board}
 use Rattle.board.specs.declared.Stored.{Stored}
 use Rattle.board.specs.State.{usable}
 use Rattle.board.specs.Promises.{Stores}
-use Rattle.board.specs.Calls.{Call, keep, shape, outcome_in, storing}
+use Rattle.board.specs.Calls.{keep, shape, outcome_in}
 use Rattle.board.proofs.Shape.{none_21, by_rows, no_board, some_board, unchanging, left_in_lem}
-use borrow.Author.Rules.{rules}
-use Rattle.board.proofs.Board.keep.Statement.{statement}
-use Rattle.board.proofs.Board.keep.Tie as tie
+use Rattle.board.proofs.Board.keep.Goals as goal
 
 -- by what it comes to
 abbrev made : List ℕ → Outcome → Board → Stored
@@ -47,39 +45,12 @@ unfolding shape
 unstored {b} {store} none-usable is =
     rw is (stored-by b store (Refused NoBoard) (sym (none_21 b (shape (keep store)) none-usable)) refl)
 
-outcome-requires : tie.Need-outcome-requires
-outcome-requires c κs = search rules
-
-is-done-requires : tie.Need-is-done-requires
-is-done-requires c κs = search rules
-
-returns : tie.Need-returns
-returns c =
-    let tested = c.before in
-    let (none-usable, is) = no_board _ tested.before.outcome.ensures tested.is-done.ensures c.if1.true in
+pub returns-then-not-is_done : goal.returns-then-not-is_done
+returns-then-not-is_done c =
+    let (none-usable, is) = no_board _ c.outcome-outcome.ensures c.is_done.ensures (ap not c.if-not-is_done.true) in
     unstored none-usable is
 
-keep-requires : tie.Need-keep-requires
-keep-requires c κs = search rules
-
-same_length : tie.Need-same-length
-same_length c = search rules
-
-returns-2 : tie.Need-returns-2
-returns-2 c =
-    let kept = c.before.before in
-    let else1 = kept.before.before in
-    let tested = else1.before in
-    let (some, is) = some_board _ tested.before.outcome.ensures tested.is-done.ensures else1.if1.false in
-    stored some kept.keep.ensures
-
-pub keep_spec : {M : Type 1} → statement M
-keep_spec =
-    tie.close
-    (tie.spec
-    outcome-requires
-    is-done-requires
-    returns
-    keep-requires
-    same_length
-    returns-2)
+pub returns : goal.returns
+returns c =
+    let (some, is) = some_board _ c.outcome-outcome.ensures c.is_done.ensures (ap not c.if-not-is_done.false) in
+    stored some c.keep-kept.ensures

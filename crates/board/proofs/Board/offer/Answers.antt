@@ -1,6 +1,6 @@
 -- A board that is none takes nothing; else the receiver takes what it takes. Assumes nothing.
-use mathlib.Core.Path.{◌≡◌, refl, sym}
-use mathlib.Core.Bool.{Bool, true, false, cond}
+use mathlib.Core.Path.{◌≡◌, refl, sym, ap}
+use mathlib.Core.Bool.{Bool, true, false, cond, not}
 use mathlib.Core.List.{List, [], ◌∷◌}
 use Prim.Native.Nat.{ℕ}
 use Rattle.refusals.specs.declared.Refusal.TheVariants.{FrameHeld, NoBoard}
@@ -8,15 +8,13 @@ use Rattle.refusals.specs.declared.Outcome.{Outcome}
 use Rattle.refusals.specs.declared.Outcome.TheVariants.{Refused}
 use Rattle.refusals.specs.Refusals.{is_done, first}
 use Rattle.receiver.specs.declared.Receiver.{Receiver}
-use Rattle.receiver.specs.Receiver.{is_held, taken, filled, offered_by, offered_of}
+use Rattle.receiver.specs.Receiver.{is_held, taken, offered_by, offered_of}
 use Rattle.board.specs.declared.Board.{Board}
 use Rattle.board.specs.declared.Heard.{Heard}
 use Rattle.board.specs.State.{usable, with_receiver}
 use Rattle.board.specs.Calls.{offer, shape, outcome_of, board_by, hearing}
 use Rattle.board.proofs.Shape.{none_21, no_board, some_board}
-use borrow.Author.Rules.{rules}
-use Rattle.board.proofs.Board.offer.Statement.{statement}
-use Rattle.board.proofs.Board.offer.Tie as tie
+use Rattle.board.proofs.Board.offer.Goals as goal
 
 none : (b : Board) (bytes : List ℕ) → usable b ≡ false
     → ◌≡◌ {A = Heard} (record { outcome = Refused NoBoard; taken = 0; board = b }) (hearing b (offer bytes))
@@ -54,39 +52,12 @@ took b bytes u = rw u (go (is_held b.hire.receiver))
     go true = refl
     go false = refl
 
-outcome-requires : tie.Need-outcome-requires
-outcome-requires c κs = search rules
-
-is-done-requires : tie.Need-is-done-requires
-is-done-requires c κs = search rules
-
-returns : tie.Need-returns
-returns c =
-    let tested = c.before in
-    let (none-usable, is) = no_board _ tested.before.outcome.ensures tested.is-done.ensures c.if1.true in
+pub returns-then-not-is_done : goal.returns-then-not-is_done
+returns-then-not-is_done c =
+    let (none-usable, is) = no_board _ c.outcome-outcome.ensures c.is_done.ensures (ap not c.if-not-is_done.true) in
     rw is (none _ _ none-usable)
 
-offer-requires : tie.Need-offer-requires
-offer-requires c κs = search rules
-
-with-receiver-requires : tie.Need-with-receiver-requires
-with-receiver-requires c κs = search rules
-
-returns-2 : tie.Need-returns-2
-returns-2 c =
-    let offered = c.before in
-    let else1 = offered.before in
-    let tested = else1.before in
-    let (some, is) = some_board _ tested.before.outcome.ensures tested.is-done.ensures else1.if1.false in
-    rw (c.with-receiver.ensures, offered.offer.ensures) (took _ _ some)
-
-pub offer-spec : {M : Type 1} → statement M
-offer-spec =
-    tie.close
-    (tie.spec
-    outcome-requires
-    is-done-requires
-    returns
-    offer-requires
-    with-receiver-requires
-    returns-2)
+pub returns : goal.returns
+returns c =
+    let (some, is) = some_board _ c.outcome-outcome.ensures c.is_done.ensures (ap not c.if-not-is_done.false) in
+    rw (c.with_receiver.ensures, c.offer-offered.ensures) (took _ _ some)

@@ -1,7 +1,7 @@
 -- No board or no room leaves zeros; else the answer to the request. Assumes nothing.
 use mathlib.Core.Path.{◌≡◌, refl, sym, ap, ◌∙◌}
 use mathlib.Core.Bool.{Bool, true, false, not, cond}
-use mathlib.Core.List.{List, [], ◌++◌}
+use mathlib.Core.List.{List, []}
 use Prim.Native.Nat.{ℕ}
 use native.Mathlib.Omega.{arith}
 use lib.Dec.{ltb}
@@ -23,9 +23,7 @@ use Rattle.board.specs.Calls.{frame, frame_rows, shape, outcome_of, board_by, ou
 use Rattle.board.specs.Promises.{room_rows, request_outcome, Roomed, Leaves, Answered}
 use Rattle.board.proofs.Shape.{holds_on, not_true_false, not_false_true}
 use Rattle.board.proofs.Asked.{by_table, room_blank, blank, replied}
-use borrow.Author.Rules.{rules}
-use Rattle.board.proofs.Board.frame.Statement.{statement}
-use Rattle.board.proofs.Board.frame.Tie as tie
+use Rattle.board.proofs.Board.frame.Goals as goal
 
 framed : (b : Board) (s : List ℕ) (room : ℕ) → outcome_in b (frame s room) ≡ and_then (first (room_rows b room)) (request_outcome b s)
 unfolding outcome_of shape
@@ -55,52 +53,10 @@ module _ (b : Board) (s : List ℕ) {before after : List ℕ} {r : Answer} {o : 
       replied {c = frame s (length before)} (first (room_rows b (length before))) refl (framed b s (length before)) d room
       (changes b s (length before) (request_outcome b s)) a.answer a.reply
 
-has-room-requires : tie.Need-has-room-requires
-has-room-requires c κs = search rules
+pub returns-then-not-is_done : goal.returns-then-not-is_done
+returns-then-not-is_done c =
+    unanswered _ _ c.has_room-outcome.ensures c.is_done.ensures (ap not c.if-not-is_done.true) c.with_outcome.ensures
+    (whole c.zero_from.ensures (omega arith))
 
-is-done-requires : tie.Need-is-done-requires
-is-done-requires c κs = search rules
-
-zero-from-requires : tie.Need-zero-from-requires
-zero-from-requires c κs = search rules
-
-with-outcome-requires : tie.Need-with-outcome-requires
-with-outcome-requires c κs = search rules
-
-same_length : tie.Need-same-length
-same_length c = search rules
-
-returns : tie.Need-returns
-returns c =
-    let zero = c.before.before.before in
-    let then1 = zero.before.before in
-    let tested = then1.before in
-    unanswered _ _ tested.before.has_room.ensures tested.is-done.ensures then1.if1.true c.with-outcome.ensures
-    (whole zero.zero-from.ensures (omega arith))
-
-answered-requires : tie.Need-answered-requires
-answered-requires c κs = search rules
-
-same-length-2 : tie.Need-same-length-2
-same-length-2 c = search rules
-
-returns-2 : tie.Need-returns-2
-returns-2 c =
-    let answer = c.before.before in
-    let else1 = answer.before.before in
-    let tested = else1.before in
-    answers _ _ tested.before.has_room.ensures tested.is-done.ensures else1.if1.false answer.answered.ensures
-
-pub frame-spec : {M : Type 1} → statement M
-frame-spec =
-    tie.close
-    (tie.spec
-    has-room-requires
-    is-done-requires
-    zero-from-requires
-    with-outcome-requires
-    same_length
-    returns
-    answered-requires
-    same-length-2
-    returns-2)
+pub returns : goal.returns
+returns c = answers _ _ c.has_room-outcome.ensures c.is_done.ensures (ap not c.if-not-is_done.false) c.answered.ensures

@@ -1,6 +1,6 @@
 -- A board that is none is refused; else the settings are those that the recall leaves. Assumes nothing.
 use mathlib.Core.Path.{◌≡◌, refl, sym, ap, ◌∙◌}
-use mathlib.Core.Bool.{Bool, true, false, cond}
+use mathlib.Core.Bool.{Bool, true, false, cond, not}
 use mathlib.Core.List.{List}
 use Prim.Native.Nat.{ℕ}
 use Rattle.refusals.specs.declared.Outcome.{Outcome}
@@ -14,9 +14,7 @@ use Rattle.board.specs.State.{usable, with_settings}
 use Rattle.board.specs.Line.{let_go}
 use Rattle.board.specs.Calls.{recall, shape, board_by, answer_to}
 use Rattle.board.proofs.Shape.{by_rows, no_board, some_board, none, answered, holds_on}
-use borrow.Author.Rules.{rules}
-use Rattle.board.proofs.Board.recall.Statement.{statement}
-use Rattle.board.proofs.Board.recall.Tie as tie
+use Rattle.board.proofs.Board.recall.Goals as goal
 
 recalled : (b : Board) (store : List ℕ) (edition : ℕ) → usable b ≡ true
     → ◌≡◌ {A = Answer} (record {
@@ -39,47 +37,12 @@ recalled b store edition u =
     go true = refl
     go false = refl
 
-outcome-requires : tie.Need-outcome-requires
-outcome-requires c κs = search rules
+pub returns-then-not-is_done : goal.returns-then-not-is_done
+returns-then-not-is_done c =
+    let (none-usable, is) = no_board _ c.outcome-outcome.ensures c.is_done.ensures (ap not c.if-not-is_done.true) in
+    c.with_outcome.ensures ∙ none _ (recall _ _) _ is none-usable
 
-is-done-requires : tie.Need-is-done-requires
-is-done-requires c κs = search rules
-
-with-outcome-requires : tie.Need-with-outcome-requires
-with-outcome-requires c κs = search rules
-
-returns : tie.Need-returns
+pub returns : goal.returns
 returns c =
-    let tested = c.before.before in
-    let (none-usable, is) = no_board _ tested.before.outcome.ensures tested.is-done.ensures c.before.if1.true in
-    c.with-outcome.ensures ∙ none _ (recall _ _) _ is none-usable
-
-recall-requires : tie.Need-recall-requires
-recall-requires c κs = search rules
-
-with-settings-requires : tie.Need-with-settings-requires
-with-settings-requires c κs = search rules
-
-with-outcome-requires-2 : tie.Need-with-outcome-requires-2
-with-outcome-requires-2 c κs = search rules
-
-returns-2 : tie.Need-returns-2
-returns-2 c =
-    let written = c.before.before in
-    let else1 = written.before in
-    let tested = else1.before in
-    let (some, is) = some_board _ tested.before.outcome.ensures tested.is-done.ensures else1.if1.false in
-    rw (c.with-outcome2.ensures, c.before.with-settings.ensures, written.recall.ensures) (recalled _ _ _ some)
-
-pub recall-spec : {M : Type 1} → statement M
-recall-spec =
-    tie.close
-    (tie.spec
-    outcome-requires
-    is-done-requires
-    with-outcome-requires
-    returns
-    recall-requires
-    with-settings-requires
-    with-outcome-requires-2
-    returns-2)
+    let (some, is) = some_board _ c.outcome-outcome.ensures c.is_done.ensures (ap not c.if-not-is_done.false) in
+    rw (c.with_outcome-2.ensures, c.with_settings.ensures, c.recall-recalled.ensures) (recalled _ _ _ some)

@@ -11,10 +11,8 @@ use Rattle.refusals.specs.Refusals.{is_done, first}
 use Rattle.board.specs.declared.Board.{Board}
 use Rattle.board.specs.State.{usable}
 use Rattle.board.specs.Line.{holds}
-use Rattle.board.specs.Promises.{room_rows, ready_rows, Roomed, Readied}
-use borrow.Author.Rules.{rules}
-use Rattle.board.proofs.Board.ready.Statement.{statement}
-use Rattle.board.proofs.Board.ready.Tie as tie
+use Rattle.board.specs.Promises.{Roomed, Readied}
+use Rattle.board.proofs.Board.ready.Goals as goal
 
 module _ {b : Board} {room : ℕ} {o : Outcome} {t : Bool} (told : Roomed b room o) (tested : t ≡ is_done o) where
   by : (u v h : Bool) → o ≡ first ((NoBoard, u) ∷ (NoRoom, v) ∷ []) → not t ≡ true
@@ -42,33 +40,15 @@ module _ {b : Board} {room : ℕ} {o : Outcome} {t : Bool} (told : Roomed b room
   unfolding first
   none f h = record { outcome = sym (on (not (usable b)) (ltb room 259) (not (holds b)) told.outcome f ∙ rw h refl) }
 
-has-room-requires : tie.Need-has-room-requires
-has-room-requires c κs = search rules
+pub returns-then-not-is_done : goal.returns-then-not-is_done
+returns-then-not-is_done c = early c.has_room-outcome.ensures c.is_done.ensures (ap not c.if-not-is_done.true)
 
-is-done-requires : tie.Need-is-done-requires
-is-done-requires c κs = search rules
+pub returns-then-is_held : goal.returns-then-is_held
+returns-then-is_held c =
+    late c.has_room-outcome.ensures c.is_done.ensures (ap not c.if-not-is_done.false)
+    (rw (← c.is_held.ensures.0) c.if-is_held.true)
 
-returns : tie.Need-returns
-returns c = let tested = c.before in early tested.before.has_room.ensures tested.is-done.ensures c.if1.true
-
-is-held-requires : tie.Need-is-held-requires
-is-held-requires c κs = search rules
-
-returns-2 : tie.Need-returns-2
-returns-2 c =
-    let else1 = c.before.before in
-    let tested = else1.before in
-    late tested.before.has_room.ensures tested.is-done.ensures else1.if1.false
-    (rw (← c.before.is-held.ensures.0) c.if2.true)
-
-returns-3 : tie.Need-returns-3
-returns-3 c =
-    let else1 = c.before.before in
-    let tested = else1.before in
-    none tested.before.has_room.ensures tested.is-done.ensures else1.if1.false
-    (rw (← c.before.is-held.ensures.0) c.if2.false)
-
-pub ready-spec : {M : Type 1} → statement M
-ready-spec =
-    tie.close
-    (tie.spec has-room-requires is-done-requires returns is-held-requires returns-2 returns-3)
+pub returns-else-is_held : goal.returns-else-is_held
+returns-else-is_held c =
+    none c.has_room-outcome.ensures c.is_done.ensures (ap not c.if-not-is_done.false)
+    (rw (← c.is_held.ensures.0) c.if-is_held.false)
