@@ -5,11 +5,10 @@ ghost use Rattle.std.specs.Prelude.{◌≤◌, length};
 
 use desk::RECORD;
 use refusals::{Outcome, Refusal};
+use std::io::{Read, Write};
 use streams::{Got, Waiting, read_full, tell, tell_failure, tell_number, written};
 use totallines::{ALL_LINES, put_lines};
 use totals::Billed;
-
-const INPUT: i32 = 0;
 
 // Whole records, so that none stands in two blocks.
 const BLOCK: usize = 2048 * RECORD;
@@ -21,32 +20,33 @@ struct Reading {
     is_read: bool,
 }
 
-fn main() {
+fn main(rt: HostRuntime) {
+    let mut messages = rt.stderr();
     let mut block = [0u8; BLOCK];
-    let reading = all_billed(&mut block);
+    let reading = all_billed(&mut rt.stdin(), &mut block);
     let billed = reading.billed;
     let is_read = reading.is_read;
     let mut is_written = true;
     if is_read {
-        is_written = are_told(billed);
+        is_written = are_told(&mut rt.stdout(), billed);
     }
     if is_read && is_written {
-        tell_of(billed);
+        tell_of(&mut messages, billed);
     } else {
-        tell_failure(b"bill", is_read, is_written);
+        tell_failure(&mut messages, b"bill", is_read, is_written);
     }
 }
 
 // Until the records end, one is refused or a read fails. A proved loop has to end, and nothing says that the input does: no run uses up so
 // many turns.
-fn all_billed(block: &mut [u8]) -> Reading {
+fn all_billed<R: Read>(input: &mut R, block: &mut [u8]) -> Reading {
     let mut billed = Billed::none();
     let mut turns = u64::MAX;
-    let mut got = next_block(true, block);
+    let mut got = next_block(true, input, block);
     while 0 < turns && 0 < got.count {
         let count = got.count;
         billed = billed.followed_by(&block[0..count]);
-        got = next_block(got.is_well & billed.is_done(), block);
+        got = next_block(got.is_well & billed.is_done(), input, block);
         turns -= 1;
     }
     Reading {
@@ -56,10 +56,10 @@ fn all_billed(block: &mut [u8]) -> Reading {
 }
 
 // How many bytes stand in the block, 0 at the end. Where a read failed they are the whole records before it: none of them is cut.
-fn next_block(goes_on: bool, block: &mut [u8]) -> Got
+fn next_block<R: Read>(goes_on: bool, input: &mut R, block: &mut [u8]) -> Got
     ensures { result.count ≤ length block.new }
 {
-    let got = read_full(goes_on, INPUT, block);
+    let got = read_full(goes_on, input, block);
     Got {
         count: billed_count(got),
         is_well: got.is_well,
@@ -77,35 +77,35 @@ fn billed_count(got: Got) -> usize
 }
 
 // Whether the lines are written.
-fn are_told(billed: Billed) -> bool {
+fn are_told<W: Write>(output: &mut W, billed: Billed) -> bool {
     let mut out = [0u8; ALL_LINES];
     let count = put_lines(&mut out, 0, billed);
     let waiting = Waiting {
         count,
         is_well: true,
     };
-    written(&out, waiting)
+    written(output, &out, waiting)
 }
 
 // How many records, and the number with its meaning where there is one.
-fn tell_of(billed: Billed) {
-    tell(b"bill: ");
-    tell_number(billed.totals.count);
-    tell(b" records");
+fn tell_of<M: Write>(messages: &mut M, billed: Billed) {
+    tell(messages, b"bill: ");
+    tell_number(messages, billed.totals.count);
+    tell(messages, b" records");
     let outcome = billed.outcome;
     match outcome {
         Outcome::Done => {}
-        Outcome::Refused(refusal) => tell_refusal(refusal),
+        Outcome::Refused(refusal) => tell_refusal(messages, refusal),
     }
-    tell(b"\n");
+    tell(messages, b"\n");
 }
 
 // Records are refused for one of two.
-fn tell_refusal(refusal: Refusal) {
-    tell(b", ");
-    tell_number(refusal.number() as u64);
+fn tell_refusal<M: Write>(messages: &mut M, refusal: Refusal) {
+    tell(messages, b", ");
+    tell_number(messages, refusal.number() as u64);
     match refusal {
-        Refusal::CutBill => tell(b": the last record is cut"),
-        _ => tell(b": a total is past 64 bits"),
+        Refusal::CutBill => tell(messages, b": the last record is cut"),
+        _ => tell(messages, b": a total is past 64 bits"),
     }
 }

@@ -3,46 +3,88 @@
 
 use board::Board;
 use player::{BLOCK, Played, Reading, next_block, on_from, put_progress};
+use std::env::{Env, FillError};
+use std::fs::File;
+use std::io::{IsTerminal, Read, Write};
+use std::rt::Files;
 use streams::{read, tell, tell_failure};
 
-const INPUT: i32 = 0;
+// Of a read of the line.
+const READ: usize = 4096;
+
+const LONGEST_NAME: usize = 4096;
 
 // With no recording: 8 cells, 2000 pulses per km, no tick yet.
-fn main() {
-    let words = os::arg_count();
-    if words < 2 {
+fn main(rt: HostRuntime) {
+    let mut input = rt.stdin();
+    let mut output = rt.stdout();
+    let mut messages = rt.stderr();
+    if !is_given(&rt, 1) {
         let started = Board::start(8, 2000);
-        listen(started.board);
-    } else if words == 2 {
-        play_and_listen();
+        listen(started.board, &mut input, &mut output, &mut messages);
+    } else if !is_given(&rt, 2) {
+        let reading = named_played(&rt, &mut messages);
+        serve_after(reading, &mut input, &mut output, &mut messages);
     } else {
-        tell(b"usage: line [RECORDING]\n");
+        tell(&mut messages, b"usage: line [RECORDING]\n");
     }
 }
 
-fn play_and_listen() {
-    let mut name = io::buffer();
-    let length = os::arg(1, &mut name);
-    let file = os::open_read(&name[..length]);
-    let mut block = [0u8; BLOCK];
-    serve_after(all_played(player::opening(file), file, &mut block));
+// Was the program started with such a word? Word 0 is its own name.
+fn is_given<R: Env>(rt: &R, at: usize) -> bool {
+    let mut start = [0u8; 1];
+    match rt.arg(at, &mut start) {
+        Ok(_) => true,
+        Err(FillError::TooLong) => true,
+        Err(FillError::NotPresent) => false,
+    }
+}
+
+// What has been played of the recording that word 1 names.
+fn named_played<R: Env + Files, M: Write + IsTerminal>(rt: &R, messages: &mut M) -> Reading {
+    match named(rt) {
+        Some(mut file) => {
+            let mut block = [0u8; BLOCK];
+            let start = player::opening(&mut file);
+            all_played(start, &mut file, messages, &mut block)
+        }
+        None => player::unread(),
+    }
+}
+
+// The file that word 1 names.
+fn named<R: Env + Files>(rt: &R) -> Option<R::File> {
+    let mut name = [0u8; LONGEST_NAME];
+    let length = rt.arg(1, &mut name).ok()?;
+    let path = std::str::from_utf8(&name[..length]).ok()?;
+    File::open(rt, path).ok()
 }
 
 // A recording that is refused is told of, and served as far as it went; one that cannot be read, or whose opening is bad, has no board to
 // serve.
-fn serve_after(reading: Reading) {
+fn serve_after<I: Read, O: Write, M: Write>(
+    reading: Reading,
+    input: &mut I,
+    output: &mut O,
+    messages: &mut M,
+) {
     let played = reading.played;
     let ran = played.ran;
     if reading.is_unread() | !ran.is_done() {
-        player::tell_of(b"line", reading, true);
+        player::tell_of(messages, b"line", reading, true);
     }
     if played.is_open & !reading.is_unread() {
-        listen(ran.board);
+        listen(ran.board, input, output, messages);
     }
 }
 
 // Until the recording ends, is refused or cannot be read; no run uses up so many turns.
-fn all_played(start: Reading, file: i32, block: &mut [u8]) -> Reading {
+fn all_played<R: Read, M: Write + IsTerminal>(
+    start: Reading,
+    file: &mut R,
+    messages: &mut M,
+    block: &mut [u8],
+) -> Reading {
     let opened = start.played;
     let mut ran = opened.ran;
     let mut turns = u64::MAX;
@@ -50,7 +92,7 @@ fn all_played(start: Reading, file: i32, block: &mut [u8]) -> Reading {
     while 0 < turns && 0 < got.count && ran.is_done() {
         let count = got.count;
         ran = on_from(ran, &block[0..count], usize::MAX);
-        put_progress(ran.accepted, turns);
+        put_progress(messages, ran.accepted, turns);
         got = next_block(got.is_well, file, block);
         turns -= 1;
     }
@@ -63,19 +105,24 @@ fn all_played(start: Reading, file: i32, block: &mut [u8]) -> Reading {
 
 // Until the line ends, cannot be read, or a reply cannot be written. A proved loop has to end, and nothing says that the input does: no run
 // uses up so many turns.
-fn listen(start: Board) {
+fn listen<I: Read, O: Write, M: Write>(
+    start: Board,
+    input: &mut I,
+    output: &mut O,
+    messages: &mut M,
+) {
     let mut board = start;
     let mut is_written = true;
-    let mut block = io::buffer();
+    let mut block = [0u8; READ];
     let mut turns = u64::MAX;
-    let mut got = read(true, INPUT, &mut block);
+    let mut got = read(true, input, &mut block);
     while 0 < turns && 0 < got.count {
         let count = got.count;
-        let next = port::serve(board, &block[0..count]);
+        let next = port::serve(board, &block[0..count], output);
         board = next.board;
         is_written = next.is_written;
-        got = read(is_written, INPUT, &mut block);
+        got = read(is_written, input, &mut block);
         turns -= 1;
     }
-    tell_failure(b"line", got.is_well, is_written);
+    tell_failure(messages, b"line", got.is_well, is_written);
 }

@@ -4,11 +4,8 @@
 
 use board::Board;
 use guard::Conditions;
-use streams::{put, read_full, tell_failure};
-
-const INPUT: i32 = 0;
-
-const OUTPUT: i32 = 1;
+use std::io::Write;
+use streams::{put, put_number, read_full, tell_failure};
 
 const MOST_TICKS: usize = 600;
 
@@ -16,25 +13,27 @@ const RECORD: usize = 48;
 
 const OPENING: usize = 4;
 
-fn main() {
+fn main(rt: HostRuntime) {
+    let mut input = rt.stdin();
     let mut opening = [0u8; OPENING];
-    let first = read_full(true, INPUT, &mut opening);
+    let first = read_full(true, &mut input, &mut opening);
     let four = first.count;
     let mut records = [0u8; MOST_TICKS * RECORD];
-    let rest = read_full(first.is_well, INPUT, &mut records);
+    let rest = read_full(first.is_well, &mut input, &mut records);
     let bytes = rest.count;
     let is_read = rest.is_well;
     let mut is_written = true;
     if is_read {
         let opened = recording::open(&opening[0..four]);
-        is_written = put_alike(ticks_alike(opened.board, &records[0..bytes]));
+        let ticks = ticks_alike(opened.board, &records[0..bytes]);
+        is_written = put_alike(&mut rt.stdout(), ticks);
     }
-    tell_failure(b"lookback", is_read, is_written);
+    tell_failure(&mut rt.stderr(), b"lookback", is_read, is_written);
 }
 
-fn put_alike(ticks: usize) -> bool {
-    let is_counted = io::print_decimal(OUTPUT, ticks as u64);
-    put(is_counted, b" ticks alike\n")
+fn put_alike<W: Write>(output: &mut W, ticks: usize) -> bool {
+    let is_counted = put_number(true, output, ticks as u64);
+    put(is_counted, output, b" ticks alike\n")
 }
 
 // Both have the board's settings, which no recording writes.

@@ -5,7 +5,7 @@ use mathlib.Core.List.{List, [], ◌∷◌}
 use Prim.Native.Nat.{ℕ, zero, suc, ◌+◌, ◌-◌, ◌<◌, ◌≤◌, min}
 use native.Mathlib.Omega.{arith}
 use native.Mathlib.Nat.{not-suc-le-zero}
-use lib.ListN.{length, take, drop, length-drop}
+use Rattle.std.proofs.Common.{length, take, drop, length-drop}
 use lib.Seq.{take_all}
 use Rattle.board.specs.declared.Board.{Board}
 use Rattle.port.specs.declared.Turn.{Turn}

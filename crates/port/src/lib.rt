@@ -6,6 +6,7 @@ ghost use Rattle.port.specs.Port.{Answers, served_of};
 
 use board::Board;
 use numbers::lesser;
+use std::io::Write;
 use streams::put;
 
 // For the longest reply.
@@ -27,7 +28,7 @@ pub struct Listened {
 }
 
 // Every byte is taken, and each frame's reply is written as soon as the frame is complete; after one that cannot be written none is.
-pub fn serve(start: Board, bytes: &[u8]) -> Listened
+pub fn serve<W: Write>(start: Board, bytes: &[u8], output: &mut W) -> Listened
     ensures { result.board ≡ (served_of start bytes.now).board }
 {
     let mut board = start;
@@ -38,7 +39,7 @@ pub fn serve(start: Board, bytes: &[u8]) -> Listened
     while turns <= bytes.len() && 0 < rest.len() {
         let turn = answer(board, rest, &mut reply);
         let length = lesser(turn.length, ROOM);
-        is_written = put(is_written, &reply[0..length]);
+        is_written = put(is_written, output, &reply[0..length]);
         board = turn.board;
         let taken = lesser(turn.taken, rest.len());
         rest = &rest[taken..];

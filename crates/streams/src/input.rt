@@ -1,6 +1,8 @@
 // Reads. One that fails is not the end of what is read.
 ghost use Rattle.std.specs.Prelude.{◌≤◌, length};
 
+use std::io::Read;
+
 // How many bytes stand in the buffer, 0 at the end, and whether no read failed.
 #[derive(Clone, Copy)]
 pub struct Got {
@@ -9,7 +11,7 @@ pub struct Got {
 }
 
 // What has come, without waiting for more. Where the reader does not go on nothing is read, and that is not well.
-pub fn read(goes_on: bool, input: i32, buffer: &mut [u8]) -> Got
+pub fn read<R: Read>(goes_on: bool, input: &mut R, buffer: &mut [u8]) -> Got
     ensures { result.count ≤ length buffer.new }
 {
     if goes_on {
@@ -22,18 +24,23 @@ pub fn read(goes_on: bool, input: i32, buffer: &mut [u8]) -> Got
     }
 }
 
-fn one_read(input: i32, buffer: &mut [u8]) -> Got
+fn one_read<R: Read>(input: &mut R, buffer: &mut [u8]) -> Got
     ensures { result.count ≤ length buffer.new }
 {
-    let got = libc::read(input, buffer);
-    Got {
-        count: io::count(got, buffer),
-        is_well: 0 <= got,
+    match input.read(buffer) {
+        Ok(count) => Got {
+            count,
+            is_well: true,
+        },
+        Err(_) => Got {
+            count: 0,
+            is_well: false,
+        },
     }
 }
 
 // As many bytes as the buffer holds; fewer at the end, or where a read failed.
-pub fn read_full(goes_on: bool, input: i32, buffer: &mut [u8]) -> Got
+pub fn read_full<R: Read>(goes_on: bool, input: &mut R, buffer: &mut [u8]) -> Got
     ensures { result.count ≤ length buffer.new }
 {
     let mut count = 0;

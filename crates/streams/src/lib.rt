@@ -6,4 +6,4 @@ mod input;
 mod output;
 
 pub use input::{Got, read, read_full};
-pub use output::{Waiting, put, tell, tell_failure, tell_number, with_room, written};
+pub use output::{Waiting, put, put_number, tell, tell_failure, tell_number, with_room, written};

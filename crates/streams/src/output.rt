@@ -3,11 +3,11 @@
 ghost use Rattle.std.specs.Prelude.{cond, ◌≡◌, ◌+◌, leb, length};
 
 use numbers::lesser;
-use text::has_room;
+use std::io::Write;
+use text::{has_room, put_decimal};
 
-const OUTPUT: i32 = 1;
-
-const MESSAGES: i32 = 2;
+// For the longest number of 64 bits.
+const DIGITS: usize = 20;
 
 // How many bytes wait, and whether all before them are written.
 #[derive(Clone, Copy)]
@@ -17,7 +17,7 @@ pub struct Waiting {
 }
 
 // There are so many places behind what waits: all is written where there are fewer.
-pub fn with_room(out: &[u8], waiting: usize, places: usize) -> Waiting
+pub fn with_room<W: Write>(output: &mut W, out: &[u8], waiting: usize, places: usize) -> Waiting
     ensures { result.count ≡ cond (leb (waiting + places) (length out.now)) waiting 0 }
 {
     if has_room(out.len(), waiting, places) {
@@ -29,37 +29,45 @@ pub fn with_room(out: &[u8], waiting: usize, places: usize) -> Waiting
     let count = lesser(waiting, out.len());
     Waiting {
         count: 0,
-        is_well: put(true, &out[0..count]),
+        is_well: put(true, output, &out[0..count]),
     }
 }
 
 // Whether all that waits, and all before it, is written.
-pub fn written(out: &[u8], waiting: Waiting) -> bool {
+pub fn written<W: Write>(output: &mut W, out: &[u8], waiting: Waiting) -> bool {
     let count = lesser(waiting.count, out.len());
-    put(waiting.is_well, &out[0..count])
+    put(waiting.is_well, output, &out[0..count])
 }
 
 // Whether the bytes are written; after a failure nothing is.
-pub fn put(is_well: bool, bytes: &[u8]) -> bool {
-    is_well && io::write_all(OUTPUT, bytes)
+pub fn put<W: Write>(is_well: bool, output: &mut W, bytes: &[u8]) -> bool {
+    is_well && output.write_all(bytes).is_ok()
+}
+
+// Whether the number is written, in decimal; after a failure nothing is.
+pub fn put_number<W: Write>(is_well: bool, output: &mut W, number: u64) -> bool {
+    let mut digits = [0u8; DIGITS];
+    let count = put_decimal(&mut digits, 0, number);
+    let length = lesser(count, DIGITS);
+    put(is_well, output, &digits[0..length])
 }
 
 // A line where the input could not be read or the output not be written.
-pub fn tell_failure(name: &[u8], is_read: bool, is_written: bool) {
+pub fn tell_failure<W: Write>(messages: &mut W, name: &[u8], is_read: bool, is_written: bool) {
     if !is_written {
-        tell(name);
-        tell(b": standard output cannot be written\n");
+        tell(messages, name);
+        tell(messages, b": standard output cannot be written\n");
     } else if !is_read {
-        tell(name);
-        tell(b": standard input cannot be read\n");
+        tell(messages, name);
+        tell(messages, b": standard input cannot be read\n");
     }
 }
 
 // On standard error. Where that fails too there is nobody left to tell.
-pub fn tell(words: &[u8]) {
-    let is_told = io::write_all(MESSAGES, words);
+pub fn tell<W: Write>(messages: &mut W, words: &[u8]) {
+    let _ = put(true, messages, words);
 }
 
-pub fn tell_number(number: u64) {
-    let is_told = io::print_decimal(MESSAGES, number);
+pub fn tell_number<W: Write>(messages: &mut W, number: u64) {
+    let _ = put_number(true, messages, number);
 }

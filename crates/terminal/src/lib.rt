@@ -11,10 +11,15 @@ use crate::calls::{Call, MOST_CELLS, MOST_ROOM, call_of, store_length};
 use crate::turns::answered;
 use board::Board;
 use numbers::lesser;
+use std::io::{IsTerminal, Read, Write};
 use streams::{Got, Waiting, read, tell, tell_failure, with_room, written};
 use text::{LF, appended, line_end, without_cr};
 
-const INPUT: i32 = 0;
+// Of what is read at once, and of the answers that wait.
+const BLOCK: usize = 65536;
+
+// Of a line that stands in two blocks.
+const LINE: usize = 4096;
 
 // Answers are written before fewer bytes than this are free: the longest has 1,819.
 const ANSWER_ROOM: usize = 2048;
@@ -34,17 +39,33 @@ struct Answered {
 }
 
 // Answers standard input on standard output until the input ends or cannot be read, or an answer cannot be written.
-pub fn serve(name: &[u8]) {
-    let mut block = io::large_buffer();
-    let mut line = io::buffer();
-    let mut out = io::large_buffer();
-    let prompts = libc::isatty(INPUT) == 1;
-    answer_all(name, prompts, &mut block, &mut line, &mut out);
+pub fn serve<I: Read + IsTerminal, O: Write, M: Write>(
+    name: &[u8],
+    input: &mut I,
+    output: &mut O,
+    messages: &mut M,
+) {
+    let mut block = [0u8; BLOCK];
+    let mut line = [0u8; LINE];
+    let mut out = [0u8; BLOCK];
+    let prompts = input.is_terminal();
+    answer_all(
+        name, prompts, input, output, messages, &mut block, &mut line, &mut out,
+    );
 }
 
 // Before the first start there is a board that was started with 0 cells.
 // A proved loop has to end, and nothing says that the input does: no run uses up so many turns.
-fn answer_all(name: &[u8], prompts: bool, block: &mut [u8], line: &mut [u8], out: &mut [u8]) {
+fn answer_all<I: Read, O: Write, M: Write>(
+    name: &[u8],
+    prompts: bool,
+    input: &mut I,
+    output: &mut O,
+    messages: &mut M,
+    block: &mut [u8],
+    line: &mut [u8],
+    out: &mut [u8],
+) {
     let first = Board::start(0, 0);
     let mut board = first.board;
     let mut store = [0u8; MOST_ROOM];
@@ -52,54 +73,80 @@ fn answer_all(name: &[u8], prompts: bool, block: &mut [u8], line: &mut [u8], out
     let mut is_written = true;
     let mut held = 0;
     let mut turns = u64::MAX;
-    let mut got = block_read(true, prompts, block);
+    let mut got = block_read(true, prompts, input, messages, block);
     while 0 < turns && 0 < got.count {
         let part = lesser(got.count, block.len());
-        let next = block_answered(board, &mut store, length, &block[0..part], line, held, out);
+        let next = block_answered(
+            board,
+            &mut store,
+            length,
+            &block[0..part],
+            line,
+            held,
+            output,
+            out,
+        );
         board = next.board;
         length = next.length;
         is_written = next.is_written;
         held = carried(line, held, &block[0..part]);
-        got = block_read(is_written, prompts, block);
+        got = block_read(is_written, prompts, input, messages, block);
         turns -= 1;
     }
-    let is_ended = end_answered(got.is_well, board, &mut store, length, line, held, out);
-    tell_failure(name, got.is_well, is_written & is_ended);
+    let is_ended = end_answered(
+        got.is_well,
+        board,
+        &mut store,
+        length,
+        line,
+        held,
+        output,
+        out,
+    );
+    tell_failure(messages, name, got.is_well, is_written & is_ended);
 }
 
 // The last line, where it lacks its end: whether its answer is written. Of a line whose read failed no call is made.
-fn end_answered(
+fn end_answered<O: Write>(
     is_read: bool,
     board: Board,
     store: &mut [u8],
     length: usize,
     line: &mut [u8],
     held: usize,
+    output: &mut O,
     out: &mut [u8],
 ) -> bool {
     if is_read {
-        let last = block_answered(board, store, length, &LAST_END, line, held, out);
+        let last = block_answered(board, store, length, &LAST_END, line, held, output, out);
         return last.is_written;
     }
     true
 }
 
 // One read, where there is to be one.
-fn block_read(goes_on: bool, prompts: bool, block: &mut [u8]) -> Got {
+fn block_read<I: Read, M: Write>(
+    goes_on: bool,
+    prompts: bool,
+    input: &mut I,
+    messages: &mut M,
+    block: &mut [u8],
+) -> Got {
     if prompts & goes_on {
-        tell(b"> ");
+        tell(messages, b"> ");
     }
-    read(goes_on, INPUT, block)
+    read(goes_on, input, block)
 }
 
 // Every line that the block ends, until an answer cannot be written; of the first of them so many bytes are held.
-fn block_answered(
+fn block_answered<O: Write>(
     mut board: Board,
     store: &mut [u8],
     mut length: usize,
     block: &[u8],
     line: &mut [u8],
     mut held: usize,
+    output: &mut O,
     out: &mut [u8],
 ) -> Answered {
     let mut request = [0u8; MOST_ROOM];
@@ -126,12 +173,12 @@ fn block_answered(
             said.count,
         );
         board = turn.board;
-        said = with_room(out, turn.said, ANSWER_ROOM);
+        said = with_room(output, out, turn.said, ANSWER_ROOM);
     }
     Answered {
         board,
         length,
-        is_written: written(out, said),
+        is_written: written(output, out, said),
     }
 }
 

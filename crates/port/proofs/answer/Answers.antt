@@ -1,8 +1,7 @@
 -- An offer, then a fetch, then the length of what it left. Assumes nothing.
 use mathlib.Core.List.{List}
 use mathlib.Core.Path.{◌≡◌, ap, ◌∙◌}
-use lib.ListN.{length}
-use Prim.Native.Nat.{ℕ}
+use Rattle.std.proofs.Common.{length, ℕ}
 use Rattle.board.specs.declared.Answer.{Answer}
 use Rattle.board.specs.declared.Board.{Board}
 use Rattle.board.specs.declared.Heard.{Heard}
@@ -10,9 +9,7 @@ use Rattle.board.specs.Calls.{offer, fetch, shape, left_of, hearing, board_after
 use Rattle.board.specs.Promises.{Leaves}
 use Rattle.answers.specs.Length.{length_in}
 use Rattle.port.specs.Port.{buffer_of, Answers}
-use borrow.Author.Rules.{rules}
-use Rattle.port.proofs.answer.Statement.{statement}
-use Rattle.port.proofs.answer.Tie as tie
+use Rattle.port.proofs.answer.Goals as goal
 
 answered : {b : Board} {bytes before after : List ℕ} {h : Heard} {a : Answer} {n : ℕ} → h ≡ hearing b (offer bytes)
     → Leaves h.board (fetch (length before)) before a after → n ≡ length_in after
@@ -26,24 +23,5 @@ answered {b} {bytes} {before} {after} {h} {a} {n} e f k =
     let said = k ∙ ap length_in buffer in
     record { turn = λ i. record { taken = (e i).taken; length = said i; board = board i }; buffer = buffer }
 
-offer-requires : tie.Need-offer-requires
-offer-requires c κs = search rules
-
-fetch-requires : tie.Need-fetch-requires
-fetch-requires c κs = search rules
-
-length-in-requires : tie.Need-length-in-requires
-length-in-requires c κs = search rules
-
-same_length : tie.Need-same-length
-same_length c = search rules
-
-returns : tie.Need-returns
-returns c =
-    let fetched = c.before.before.before.before.before in
-    let offered = fetched.before.before in
-    answered offered.offer.ensures fetched.fetch.ensures c.length-in.ensures.0
-
-pub answer-spec : {M : Type 1} → statement M
-answer-spec =
-    tie.close (tie.spec offer-requires fetch-requires length-in-requires same_length returns)
+pub returns : goal.returns
+returns c = answered c.offer-heard.ensures c.fetch-answer.ensures c.length_in.ensures.0
