@@ -42,7 +42,7 @@ def read(path):
 def of_function(path):
     """Whether a file of proofs/ is a function's own proof."""
     inside = path.split("/proofs/")
-    return len(inside) == 2 and os.path.basename(path) in ("Proof.antt", "Answers.antt", "Invariants.antt")
+    return len(inside) == 2 and "/" in inside[1] and os.path.basename(path) in ("Proof.antt", "Answers.antt", "Invariants.antt")
 
 
 def is_own(module):

@@ -2,7 +2,7 @@
 -- ends changes a number (the one of the summed pulses, nothing that is shown). Why: the board is the one that its deeds make
 -- (`account`), and a deed that is a tick was judged good; so each bound is a law of lists over the accepted ticks; the receiver's room
 -- alone goes by the calls. Numbers from outside have their machine types, which lists do not carry: where that is needed, `Typed` says it
--- of cells and bytes, and `km-per-hour` of the pulses per km. Ends that the paper itself sets are met, and are not meant here: 62 events,
+-- of cells and bytes, and `km_per_hour` of the pulses per km. Ends that the paper itself sets are met, and are not meant here: 62 events,
 -- the 65,535 of a count, the 2^32 - 1 of clock and distance, the byte of whole degrees. Assumes nothing.
 use mathlib.Core.Path.{◌≡◌, refl, sym, ap, ◌∙◌, subst, subst⁻¹}
 use mathlib.Core.Bool.{Bool, true, false, ◌&&◌, ◌||◌, cond, false≢true}
@@ -99,39 +99,39 @@ module _ {A : Type 0} (P : A → Type 0) where
   all_append [] ys p q = q
   all_append (x ∷ xs) ys p q = (p.0, all_append xs ys p.1 q)
 
-  pub all-reversed : (xs ys : List A) → All P xs → All P ys → All P (reverse_aux xs ys)
-  all-reversed [] ys p q = q
-  all-reversed (x ∷ xs) ys p q = all-reversed xs (x ∷ ys) p.1 (p.0, q)
+  pub all_reversed : (xs ys : List A) → All P xs → All P ys → All P (reverse_aux xs ys)
+  all_reversed [] ys p q = q
+  all_reversed (x ∷ xs) ys p q = all_reversed xs (x ∷ ys) p.1 (p.0, q)
 
-  all-latest : (n : ℕ) (z : A) (xs : List A) → P z → All P xs → All P (latest n z xs)
-  all-latest zero z xs p q = tt
-  all-latest (suc n) z [] p q = all_append (latest n z []) (z ∷ []) (all-latest n z [] p tt) (p, tt)
-  all-latest (suc n) z (x ∷ xs) p q = all_append (latest n z xs) (x ∷ []) (all-latest n z xs p q.1) (q.0, tt)
+  all_latest : (n : ℕ) (z : A) (xs : List A) → P z → All P xs → All P (latest n z xs)
+  all_latest zero z xs p q = tt
+  all_latest (suc n) z [] p q = all_append (latest n z []) (z ∷ []) (all_latest n z [] p tt) (p, tt)
+  all_latest (suc n) z (x ∷ xs) p q = all_append (latest n z xs) (x ∷ []) (all_latest n z xs p q.1) (q.0, tt)
 
   all_so : (Q : A → Type 0) → ((x : A) → Q x → P x) → (xs : List A) → All Q xs → All P xs
   all_so Q law [] q = tt
   all_so Q law (x ∷ xs) q = (law x q.0, all_so Q law xs q.1)
 
   module _ {B : Type 0} where
-    all-mapped : (f : B → A) → ((x : B) → P (f x)) → (xs : List B) → All P (map f xs)
-    all-mapped f law [] = tt
-    all-mapped f law (x ∷ xs) = (law x, all-mapped f law xs)
+    all_mapped : (f : B → A) → ((x : B) → P (f x)) → (xs : List B) → All P (map f xs)
+    all_mapped f law [] = tt
+    all_mapped f law (x ∷ xs) = (law x, all_mapped f law xs)
 
-    all-through : (Q : B → Type 0) (f : B → A) → ((x : B) → Q x → P (f x)) → (xs : List B) → All Q xs → All P (map f xs)
-    all-through Q f law [] p = tt
-    all-through Q f law (x ∷ xs) p = (law x p.0, all-through Q f law xs p.1)
+    all_through : (Q : B → Type 0) (f : B → A) → ((x : B) → Q x → P (f x)) → (xs : List B) → All Q xs → All P (map f xs)
+    all_through Q f law [] p = tt
+    all_through Q f law (x ∷ xs) p = (law x p.0, all_through Q f law xs p.1)
 
 -- a sum of numbers that are at most k
-sum-most : (k : ℕ) (xs : List ℕ) (a : ℕ) → All (λ x. x ≤ k) xs → gather ◌+◌ a xs ≤ a + k * length xs
-sum-most k [] a p = omega arith
-sum-most k (x ∷ xs) a p = let h = sum-most k xs (a + x) p.1 in let g : x ≤ k = p.0 in omega arith
+sum_most : (k : ℕ) (xs : List ℕ) (a : ℕ) → All (λ x. x ≤ k) xs → gather ◌+◌ a xs ≤ a + k * length xs
+sum_most k [] a p = omega arith
+sum_most k (x ∷ xs) a p = let h = sum_most k xs (a + x) p.1 in let g : x ≤ k = p.0 in omega arith
 
 -- the lowest and the highest gathered are so
-gathered-within : (xs : List ℕ) (a b : ℕ)
+gathered_within : (xs : List ℕ) (a b : ℕ)
     → (gather min a xs ≤ a) × (b ≤ gather max b xs) × All (λ c. (gather min a xs ≤ c) × (c ≤ gather max b xs)) xs
-gathered-within [] a b = (omega arith, omega arith, tt)
-gathered-within (x ∷ xs) a b =
-    let i = gathered-within xs (min a x) (max b x) in
+gathered_within [] a b = (omega arith, omega arith, tt)
+gathered_within (x ∷ xs) a b =
+    let i = gathered_within xs (min a x) (max b x) in
     (omega arith, omega arith, ((omega arith, omega arith), i.2))
 
 -- ---- the ticks that were accepted
@@ -188,27 +188,27 @@ sixteen f s (suc n) typed = (go f, sixteen f s n typed)
 abbrev pub Bytes : List ℕ → Type 0
 Bytes s = All (λ b. b ≤ 255) s
 
-all-taken : (n : ℕ) (bytes : List ℕ) → Bytes bytes → Bytes (take n bytes)
-all-taken zero bytes p = tt
-all-taken (suc n) [] p = tt
-all-taken (suc n) (b ∷ bytes) p = (p.0, all-taken n bytes p.1)
+all_taken : (n : ℕ) (bytes : List ℕ) → Bytes bytes → Bytes (take n bytes)
+all_taken zero bytes p = tt
+all_taken (suc n) [] p = tt
+all_taken (suc n) (b ∷ bytes) p = (p.0, all_taken n bytes p.1)
 
 -- the twelve registers of a record of a store
-twelve-sixteen : (r : List ℕ) (n : ℕ) → ((i : ℕ) → get_or r i 0 ≤ 255) → All Sixteen (pairs_in r n)
+twelve_sixteen : (r : List ℕ) (n : ℕ) → ((i : ℕ) → get_or r i 0 ≤ 255) → All Sixteen (pairs_in r n)
 unfolding pairs_in
-twelve-sixteen r zero bytes = tt
-twelve-sixteen r (suc n) bytes =
+twelve_sixteen r zero bytes = tt
+twelve_sixteen r (suc n) bytes =
     let a = bytes (4 + 2 * n) in
     let b = bytes (4 + 2 * n + 1) in
-    (omega arith, twelve-sixteen r n bytes)
+    (omega arith, twelve_sixteen r n bytes)
 
-recalled-sixteen : (store : List ℕ) (edition : ℕ) → Bytes store → All Sixteen (pairs_for store edition)
-recalled-sixteen store edition typed =
-    twelve-sixteen (class_for store edition) 12 (λ j. class_below 255 store edition j (λ i. byte store i typed))
+recalled_sixteen : (store : List ℕ) (edition : ℕ) → Bytes store → All Sixteen (pairs_for store edition)
+recalled_sixteen store edition typed =
+    twelve_sixteen (class_for store edition) 12 (λ j. class_below 255 store edition j (λ i. byte store i typed))
 
-all-begun : (bytes : List ℕ) → Bytes bytes → Bytes (begun bytes)
-all-begun [] p = tt
-all-begun (b ∷ bytes) p = go (eqb b 0xAA) (all-begun bytes p.1)
+all_begun : (bytes : List ℕ) → Bytes bytes → Bytes (begun bytes)
+all_begun [] p = tt
+all_begun (b ∷ bytes) p = go (eqb b 0xAA) (all_begun bytes p.1)
   where
     go : (t : Bool) → Bytes (begun bytes) → Bytes (cond t (b ∷ bytes) (begun bytes))
     go true q = p
@@ -219,54 +219,54 @@ abbrev pub TypedDeed : Deed → Type 0
 TypedDeed d = All (λ t. All (λ c. c ≤ 65535) t.0) (row d).ticks × All Sixteen (row d).writes × Bytes (row d).hears
 
 module _ (cells per_km : ℕ) where
-  asked-typed : (s : List ℕ) → Bytes s → (q : Request) → Each cells per_km TypedDeed (asked_deeds s q)
+  asked_typed : (s : List ℕ) → Bytes s → (q : Request) → Each cells per_km TypedDeed (asked_deeds s q)
   unfolding asked_deeds
-  asked-typed s t (request.Refused refusal) = tt
-  asked-typed s t request.ClearEvents = ((tt, tt, tt), tt)
-  asked-typed s t request.ClearStatistics = ((tt, tt, tt), tt)
-  asked-typed s t (request.Write f n) = ((tt, sixteen f s n t, tt), tt)
-  asked-typed s t (request.Read q) = go (marks q)
+  asked_typed s t (request.Refused refusal) = tt
+  asked_typed s t request.ClearEvents = ((tt, tt, tt), tt)
+  asked_typed s t request.ClearStatistics = ((tt, tt, tt), tt)
+  asked_typed s t (request.Write f n) = ((tt, sixteen f s n t, tt), tt)
+  asked_typed s t (request.Read q) = go (marks q)
     where
       go : (t : Bool) → Each cells per_km TypedDeed (cond t (sent ∷ []) [])
       go true = ((tt, tt, tt), tt)
       go false = tt
 
-  typed-deeds : (h : List Deed) (c : Call) → TypedCall c → Bytes (heard_at h)
+  typed_deeds : (h : List Deed) (c : Call) → TypedCall c → Bytes (heard_at h)
       → Each cells per_km TypedDeed ((shape c).deeds (board_at cells per_km h))
   unfolding shape board_at
-  typed-deeds h (tick given r) t p = (((t, tt), tt, tt), tt)
-  typed-deeds h (frame s room) t p = asked-typed s t (request_of s)
-  typed-deeds h (handover number n) t p = ((tt, tt, tt), tt)
-  typed-deeds h (offer bytes) t p = ((tt, tt, all-taken (taken (board_at cells per_km h).hire.receiver bytes) bytes t), tt)
-  typed-deeds h (fetch room) t p =
+  typed_deeds h (tick given r) t p = (((t, tt), tt, tt), tt)
+  typed_deeds h (frame s room) t p = asked_typed s t (request_of s)
+  typed_deeds h (handover number n) t p = ((tt, tt, tt), tt)
+  typed_deeds h (offer bytes) t p = ((tt, tt, all_taken (taken (board_at cells per_km h).hire.receiver bytes) bytes t), tt)
+  typed_deeds h (fetch room) t p =
       let s = held_in (board_at cells per_km h) in
-      ((tt, tt, tt), asked-typed s (subst⁻¹ Bytes (held (heard_at h)) (all-begun (heard_at h) p)) (request_of s))
-  typed-deeds h (save n) t p = tt
-  typed-deeds h (cabinet n) t p = tt
-  typed-deeds h (load area) t p = ((tt, tt, tt), tt)
-  typed-deeds h (keep store) t p = tt
-  typed-deeds h (recall store edition) t p = ((tt, recalled-sixteen store edition t, tt), tt)
+      ((tt, tt, tt), asked_typed s (subst⁻¹ Bytes (held (heard_at h)) (all_begun (heard_at h) p)) (request_of s))
+  typed_deeds h (save n) t p = tt
+  typed_deeds h (cabinet n) t p = tt
+  typed_deeds h (load area) t p = ((tt, tt, tt), tt)
+  typed_deeds h (keep store) t p = tt
+  typed_deeds h (recall store edition) t p = ((tt, recalled_sixteen store edition t, tt), tt)
 
-  still-bytes : (d : Deed) (k : List Deed) → TypedDeed d → Bytes (heard_at k) → Bytes (heard_at (d ∷ k))
+  still_bytes : (d : Deed) (k : List Deed) → TypedDeed d → Bytes (heard_at k) → Bytes (heard_at (d ∷ k))
   unfolding heard_at
-  still-bytes (took given r) k t p = p
-  still-bytes (wrote ps) k t p = p
-  still-bytes cleared k t p = p
-  still-bytes forgot k t p = p
-  still-bytes sent k t p = p
-  still-bytes handed k t p = tt
-  still-bytes (heard bytes) k t p = subst⁻¹ Bytes (heard_more cells per_km k bytes) (all_append (λ b. b ≤ 255) (heard_at k) bytes p t.2)
-  still-bytes fetched k t p = tt
-  still-bytes (loaded es) k t p = p
+  still_bytes (took given r) k t p = p
+  still_bytes (wrote ps) k t p = p
+  still_bytes cleared k t p = p
+  still_bytes forgot k t p = p
+  still_bytes sent k t p = p
+  still_bytes handed k t p = tt
+  still_bytes (heard bytes) k t p = subst⁻¹ Bytes (heard_more cells per_km k bytes) (all_append (λ b. b ≤ 255) (heard_at k) bytes p t.2)
+  still_bytes fetched k t p = tt
+  still_bytes (loaded es) k t p = p
 
   -- so what such deeds keep holds after all typed calls
-  pub after-typed-calls : (P : List Deed → Type 0)
+  pub after_typed_calls : (P : List Deed → Type 0)
       → ((d : Deed) (k : List Deed) → May cells per_km k d → TypedDeed d → P k → P (d ∷ k)) → P []
       → (cs : List Call) → Typed cs → P (deeds_of cells per_km cs)
   unfolding heard_at
-  after-typed-calls P keeps p cs typed =
-      (after_typed cells per_km TypedCall TypedDeed (λ k. Bytes (heard_at k) × P k) (λ h c q x. typed-deeds h c q x.0) (tt, tt, tt)
-      (λ d k m t x. (still-bytes d k t x.0, keeps d k m t x.1)) (tt, p) cs (bring cs typed)).1
+  after_typed_calls P keeps p cs typed =
+      (after_typed cells per_km TypedCall TypedDeed (λ k. Bytes (heard_at k) × P k) (λ h c q x. typed_deeds h c q x.0) (tt, tt, tt)
+      (λ d k m t x. (still_bytes d k t x.0, keeps d k m t x.1)) (tt, p) cs (bring cs typed)).1
     where
       bring : (cs : List Call) → Typed cs → Bring cells per_km TypedCall cs
       bring [] t = tt
@@ -286,27 +286,27 @@ module _ (cells per_km : ℕ) (P : List ℕ × Readings → Type 0) where
         go false = all_append P (row d).ticks (ticks_since reset k) p ps
 
   -- its ticks may be done
-  may-ticks : (k : List Deed) (d : Deed) → May cells per_km k d → All (Passed cells per_km) (row d).ticks
-  may-ticks k (took given r) m = (m, tt)
-  may-ticks k (wrote ps) m = tt
-  may-ticks k cleared m = tt
-  may-ticks k forgot m = tt
-  may-ticks k sent m = tt
-  may-ticks k handed m = tt
-  may-ticks k (heard bytes) m = tt
-  may-ticks k fetched m = tt
-  may-ticks k (loaded es) m = tt
+  may_ticks : (k : List Deed) (d : Deed) → May cells per_km k d → All (Passed cells per_km) (row d).ticks
+  may_ticks k (took given r) m = (m, tt)
+  may_ticks k (wrote ps) m = tt
+  may_ticks k cleared m = tt
+  may_ticks k forgot m = tt
+  may_ticks k sent m = tt
+  may_ticks k handed m = tt
+  may_ticks k (heard bytes) m = tt
+  may_ticks k fetched m = tt
+  may_ticks k (loaded es) m = tt
 
   accepted : ((t : List ℕ × Readings) → Passed cells per_km t → P t) → (reset : Deed → Bool) (cs : List Call)
       → All P (ticks_since reset (deeds_of cells per_km cs))
   accepted law reset cs =
       after_calls cells per_km (So reset)
-      (λ d k m p. more reset d k (all_so P (Passed cells per_km) law (row d).ticks (may-ticks k d m)) p) tt cs
+      (λ d k m p. more reset d k (all_so P (Passed cells per_km) law (row d).ticks (may_ticks k d m)) p) tt cs
 
-  accepted-typed : ((t : List ℕ × Readings) → All (λ c. c ≤ 65535) t.0 → Passed cells per_km t → P t) → (cs : List Call) → Typed cs
+  accepted_typed : ((t : List ℕ × Readings) → All (λ c. c ≤ 65535) t.0 → Passed cells per_km t → P t) → (cs : List Call) → Typed cs
       → All P (ticks_since never (deeds_of cells per_km cs))
-  accepted-typed law cs typed =
-      after-typed-calls cells per_km (So never) (λ d k m t p. more never d k (both (row d).ticks t.0 (may-ticks k d m)) p) tt cs typed
+  accepted_typed law cs typed =
+      after_typed_calls cells per_km (So never) (λ d k m t p. more never d k (both (row d).ticks t.0 (may_ticks k d m)) p) tt cs typed
     where
       both : (ts : List (List ℕ × Readings)) → All (λ t. All (λ c. c ≤ 65535) t.0) ts → All (Passed cells per_km) ts → All P ts
       both [] q m = tt
@@ -350,9 +350,9 @@ and_right : (a b : Bool) → (a && b) ≡ true → b ≡ true
 and_right true b e = e
 and_right false b e = absurd (false≢true e)
 
-held-current : (z : ℤ) → wrong_current z ≡ false → (above z ≤ 1000000) × (below z ≤ 1000000) × (exact z ≡ z)
-held-current (pos n) e = let h : n ≤ 1000000 = ltb-false 1000000 n e in (h, omega arith, ap pos (omega arith))
-held-current (negsuc n) e =
+held_current : (z : ℤ) → wrong_current z ≡ false → (above z ≤ 1000000) × (below z ≤ 1000000) × (exact z ≡ z)
+held_current (pos n) e = let h : n ≤ 1000000 = ltb-false 1000000 n e in (h, omega arith, ap pos (omega arith))
+held_current (negsuc n) e =
     let h : n ≤ 999999 = ltb-false 999999 n (or_left (ltb 999999 n) false e) in
     (omega arith, omega arith, ap negsuc (omega arith))
 
@@ -364,33 +364,33 @@ module _ (cells per_km : ℕ) (t : List ℕ × Readings) where
     eqb-true (length t.0) cells (not-false (eqb (length t.0) cells) j.cells_right),
   )
 
-  tick-held : Passed cells per_km t → Tick cells t
-  tick-held j =
+  tick_held : Passed cells per_km t → Tick cells t
+  tick_held j =
       let few = count_held j in
       let all = take_all 16 t.0 (omega arith) in
-      let c = held-current t.1.current j.current-right in
+      let c = held_current t.1.current j.current_right in
       record {
         usable = (few.0, few.1);
         cells = few.2;
         all = all;
         summed = ap (gather ◌+◌ 0) all;
-        between = (gathered-within t.0 65535 0).2;
+        between = (gathered_within t.0 65535 0).2;
         spread = go t.0 (omega arith);
         within = (c.0, c.1);
         current = c.2;
         drawn = (omega arith, omega arith);
         fed = (omega arith, omega arith);
-        pulses = ltb-false 400 t.1.pulses (or_left (ltb 400 t.1.pulses) (eqb per_km 0 && ltb 0 t.1.pulses) j.pulses-right);
+        pulses = ltb-false 400 t.1.pulses (or_left (ltb 400 t.1.pulses) (eqb per_km 0 && ltb 0 t.1.pulses) j.pulses_right);
       }
     where
       go : (xs : List ℕ) → 4 ≤ length xs → lowest_of xs ≤ highest_of xs
       go [] h = absurd (not-suc-le-zero h)
-      go (x ∷ xs) h = let i = (gathered-within (x ∷ xs) 65535 0).2.0 in omega arith
+      go (x ∷ xs) h = let i = (gathered_within (x ∷ xs) 65535 0).2.0 in omega arith
 
-  typed-held : All (λ c. c ≤ 65535) t.0 → Passed cells per_km t → TypedTick t
-  typed-held typed j =
+  typed_held : All (λ c. c ≤ 65535) t.0 → Passed cells per_km t → TypedTick t
+  typed_held typed j =
       let few = count_held j in
-      let total = sum-most 65535 t.0 0 typed in
+      let total = sum_most 65535 t.0 0 typed in
       let same = ap (gather ◌+◌ 0) (take_all 16 t.0 (omega arith)) in
       record { total = omega arith; volts = ap pos (omega arith); lowest = go t.0 (omega arith) typed }
     where
@@ -400,9 +400,9 @@ module _ (cells per_km : ℕ) (t : List ℕ × Readings) where
 
 -- ---- settings and waits
 
-setting-held : (s : Settings) → Fits s → (s.r332 ≤ 30) × (1200 ≤ s.r315)
+setting_held : (s : Settings) → Fits s → (s.r332 ≤ 30) × (1200 ≤ s.r315)
 unfolding register_of
-setting-held s fits =
+setting_held s fits =
     let range = settings.between s fits.0 in
     ((range 332 (omega arith) (omega arith) refl).1, (range 315 (omega arith) (omega arith) refl).0)
 
@@ -417,28 +417,28 @@ module _ (cells per_km : ℕ) where
   abbrev AllFit : List Deed → Type 0
   AllFit k = Fits (settings_at k) × All Fitting (moments_at k)
 
-  kept-fit : (d : Deed) (k : List Deed) → May cells per_km k d → AllFit k → AllFit (d ∷ k)
-  kept-fit d k m (fits, p) =
+  kept_fit : (d : Deed) (k : List Deed) → May cells per_km k d → AllFit k → AllFit (d ∷ k)
+  kept_fit d k m (fits, p) =
       let now = moment_of (settings_at k) in (
         kept cells per_km d k m fits,
-        all_append Fitting (map now (row d).ticks) (moments_at k) (all-mapped Fitting now (λ t. fits) (row d).ticks) p,
+        all_append Fitting (map now (row d).ticks) (moments_at k) (all_mapped Fitting now (λ t. fits) (row d).ticks) p,
       )
 
-  moments-fit : (cs : List Call) → All Fitting (moments_at (deeds_of cells per_km cs))
+  moments_fit : (cs : List Call) → All Fitting (moments_at (deeds_of cells per_km cs))
   unfolding deeds_of
-  moments-fit cs = (after_calls cells per_km AllFit kept-fit (ranges cells per_km [], tt) cs).1
+  moments_fit cs = (after_calls cells per_km AllFit kept_fit (ranges cells per_km [], tt) cs).1
 
-moments-short : (cells per_km : ℕ) (cs : List Call) → All Short (moments_at (deeds_of cells per_km cs))
-moments-short cells per_km cs =
-    all_so Short Fitting (λ m fits. (setting-held m.settings fits).0) (moments_at (deeds_of cells per_km cs)) (moments-fit cells per_km cs)
+moments_short : (cells per_km : ℕ) (cs : List Call) → All Short (moments_at (deeds_of cells per_km cs))
+moments_short cells per_km cs =
+    all_so Short Fitting (λ m fits. (setting_held m.settings fits).0) (moments_at (deeds_of cells per_km cs)) (moments_fit cells per_km cs)
 
 -- at every accepted tick each row's 'Holds' and 'Recovers' of UV and OV is the paper's sentence about its cells
-pub cell-rows-held : (cells per_km : ℕ) (cs : List Call)
+pub cell_rows_held : (cells per_km : ℕ) (cs : List Call)
     → All (λ m. CellRows m.settings m.readings m.cells) (moments_at (deeds cells per_km cs))
-cell-rows-held cells per_km cs =
+cell_rows_held cells per_km cs =
     all_so (λ m. CellRows m.settings m.readings m.cells) Fitting
     (λ m fits. cell_rows m.settings m.readings m.cells fits.0)
-    (moments_at (deeds cells per_km cs)) (moments-fit cells per_km (reverse cs))
+    (moments_at (deeds cells per_km cs)) (moments_fit cells per_km (reverse cs))
 
 -- a wait, and whether its condition is latched
 pub record Wait (latched : Bool) (left : ℕ) : Type 0 where
@@ -446,8 +446,8 @@ pub record Wait (latched : Bool) (left : ℕ) : Type 0 where
   pub none : latched ≡ false → left ≡ 0
   pub some : latched ≡ true → 1 ≤ left
 
-wait-held : (held : Moment → Bool) (ms : List Moment) → All Short ms → Wait (waits held wait_of ms) (left_of held ms)
-wait-held held ms short =
+wait_held : (held : Moment → Bool) (ms : List Moment) → All Short ms → Wait (waits held wait_of ms) (left_of held ms)
+wait_held held ms short =
     let e : waits held wait_of ms ≡ ltb 0 (left_of held ms) = sym (waited held wait_of ms) ∙ ap (ltb 0) (timer held wait_of ms) in
     record {
       most = most ms (ago held ms) short;
@@ -466,53 +466,53 @@ wait-held held ms short =
 -- ---- floats
 
 module _ (f : Format) (s : Bool) where
-  odd-real : (d q k l : ℕ) → is_nan (odd d s q k l) ≡ false
+  odd_real : (d q k l : ℕ) → is_nan (odd d s q k l) ≡ false
   unfolding is_nan odd
-  odd-real d zero k l = refl
-  odd-real d (suc q) k l = refl
+  odd_real d zero k l = refl
+  odd_real d (suc q) k l = refl
 
-  units-real : (q k : ℕ) → is_nan (units f s q k) ≡ false
+  units_real : (q k : ℕ) → is_nan (units f s q k) ≡ false
   unfolding is_nan units
-  units-real q k = go (ltb (q * 2 ^ k) (2 ^ (low f + suc (emax f))))
+  units_real q k = go (ltb (q * 2 ^ k) (2 ^ (low f + suc (emax f))))
     where
       go : (t : Bool) → is_nan (cond t (odd (suc (prec f)) s q k (low f)) (inf s)) ≡ false
-      go true = odd-real (suc (prec f)) q k (low f)
+      go true = odd_real (suc (prec f)) q k (low f)
       go false = refl
 
-  round-real : (num den : ℕ) → is_nan (round f s num den) ≡ false
-  round-real num den = ap is_nan (round_is f s num den) ∙ units-real _ _
+  round_real : (num den : ℕ) → is_nan (round f s num den) ≡ false
+  round_real num den = ap is_nan (round_is f s num den) ∙ units_real _ _
 
-div-real : (f : Format) (x y : Float) (s t : Bool) (a b : ℕ) → HasValue x s a 1 → HasValue y t b 1 → 0 < b → is_nan (div f x y) ≡ false
+div_real : (f : Format) (x y : Float) (s t : Bool) (a b : ℕ) → HasValue x s a 1 → HasValue y t b 1 → 0 < b → is_nan (div f x y) ≡ false
 unfolding div is_nan
-div-real f nan y u v a b p q h = absurd p
-div-real f (inf s) y u v a b p q h = absurd p
-div-real f (fin s m e) nan u v a b p q h = absurd q
-div-real f (fin s m e) (inf t) u v a b p q h = absurd q
-div-real f (fin s m e) (fin t n d) u v a b p q h =
+div_real f nan y u v a b p q h = absurd p
+div_real f (inf s) y u v a b p q h = absurd p
+div_real f (fin s m e) nan u v a b p q h = absurd q
+div_real f (fin s m e) (inf t) u v a b p q h = absurd q
+div_real f (fin s m e) (fin t n d) u v a b p q h =
     let some : 0 < n = first_pos n (up d) (first_pos (n * up d) 1 (rw q.1 (mul-pos h (down_pos d)))) in
-    rw (ne_eqb n 0 (λ z. omega arith)) (round-real f _ _ _)
+    rw (ne_eqb n 0 (λ z. omega arith)) (round_real f _ _ _)
 
 -- a quotient of whole numbers is a number
-quotient-real : (z : ℤ) (d : ℕ) → 0 < d → d ≤ 16777216 → is_nan (quotient z d) ≡ false
+quotient_real : (z : ℤ) (d : ℕ) → 0 < d → d ≤ 16777216 → is_nan (quotient z d) ≡ false
 unfolding of_int
-quotient-real (pos n) d some held =
-    div-real binary32 _ _ false false (min 16777216 n) d (round_whole binary32 false (min 16777216 n) (omega arith))
+quotient_real (pos n) d some held =
+    div_real binary32 _ _ false false (min 16777216 n) d (round_whole binary32 false (min 16777216 n) (omega arith))
     (round_whole binary32 false d held) some
-quotient-real (negsuc n) d some held =
-    div-real binary32 _ _ true false (suc (min 16777215 n)) d (round_whole binary32 true (suc (min 16777215 n)) (omega arith))
+quotient_real (negsuc n) d some held =
+    div_real binary32 _ _ true false (suc (min 16777215 n)) d (round_whole binary32 true (suc (min 16777215 n)) (omega arith))
     (round_whole binary32 false d held) some
 
 -- volts and amps, before a tick and after one
-live-real : (h : List Deed) → (is_nan (sensed_at h).live.volts ≡ false) × (is_nan (sensed_at h).live.amps ≡ false)
+live_real : (h : List Deed) → (is_nan (sensed_at h).live.volts ≡ false) × (is_nan (sensed_at h).live.amps ≡ false)
 unfolding sensed_at is_nan of_int
-live-real h = go (ticks_since hands h)
+live_real h = go (ticks_since hands h)
   where
     go : (ts : List (List ℕ × Readings))
         → (is_nan (head_or no_sensed (map sensed_of ts)).live.volts ≡ false) × (is_nan (head_or no_sensed (map sensed_of ts)).live.amps ≡ false)
     go [] = (refl, refl)
     go (t ∷ ts) = (
-      quotient-real (pos (sum_of t.0)) 10000 (omega arith) (omega arith),
-      quotient-real t.1.current 1000 (omega arith) (omega arith),
+      quotient_real (pos (sum_of t.0)) 10000 (omega arith) (omega arith),
+      quotient_real t.1.current 1000 (omega arith) (omega arith),
     )
 
 -- ---- the receiver: a frame has 264 bytes at most, and a byte is taken only while it is not complete. What was not complete no deed tells,
@@ -523,11 +523,11 @@ record InRoom (r : Receiver) : Type 0 where
   few : r.count ≤ 264
   bytes : Bytes (held_of r)
 
-none-in-room : InRoom no_bytes
-none-in-room = record { room = refl; few = omega arith; bytes = tt }
+none_in_room : InRoom no_bytes
+none_in_room = record { room = refl; few = omega arith; bytes = tt }
 
-other-in-room : (r : Receiver) (xs : List ℕ) → InRoom r → length xs ≤ 264 → Bytes xs → InRoom (holding xs r)
-other-in-room r xs i few p =
+other_in_room : (r : Receiver) (xs : List ℕ) → InRoom r → length xs ≤ 264 → Bytes xs → InRoom (holding xs r)
+other_in_room r xs i few p =
     let behind = drop (length xs) r.bytes in
     let both = length-append xs behind in
     let left = length-drop (length xs) r.bytes in
@@ -542,71 +542,71 @@ not_full r e p =
     let most = requests.most (get_or h 1 0) (get_or h 2 0) (get_or h 6 0) (byte h 2 p) (byte h 6 p) in
     omega arith
 
-byte-in-room : (r : Receiver) (b : ℕ) → b ≤ 255 → is_held r ≡ false → InRoom r → InRoom (with_byte r b)
+byte_in_room : (r : Receiver) (b : ℕ) → b ≤ 255 → is_held r ≡ false → InRoom r → InRoom (with_byte r b)
 unfolding with_byte
-byte-in-room r b small e i = go (skips (held_of r) b)
+byte_in_room r b small e i = go (skips (held_of r) b)
   where
     go : (t : Bool) → InRoom (cond t r (holding (held_of r ++ (b ∷ [])) r))
     go true = i
     go false =
         let less = not_full r e i.bytes in
         let one = length-append (held_of r) (b ∷ []) in
-        other-in-room r (held_of r ++ (b ∷ [])) i (omega arith) (all_append (λ b. b ≤ 255) (held_of r) (b ∷ []) i.bytes (small, tt))
+        other_in_room r (held_of r ++ (b ∷ [])) i (omega arith) (all_append (λ b. b ≤ 255) (held_of r) (b ∷ []) i.bytes (small, tt))
 
-offer-in-room : (bytes : List ℕ) (r : Receiver) → Bytes bytes → InRoom r → InRoom (filled r bytes)
-offer-in-room [] r p i = i
-offer-in-room (b ∷ bytes) r p i = go (is_held r) refl (offer-in-room bytes (with_byte r b) p.1)
+offer_in_room : (bytes : List ℕ) (r : Receiver) → Bytes bytes → InRoom r → InRoom (filled r bytes)
+offer_in_room [] r p i = i
+offer_in_room (b ∷ bytes) r p i = go (is_held r) refl (offer_in_room bytes (with_byte r b) p.1)
   where
     go : (t : Bool) → is_held r ≡ t → (InRoom (with_byte r b) → InRoom (filled (with_byte r b) bytes))
         → InRoom (cond t r (filled (with_byte r b) bytes))
     go true e later = i
-    go false e later = later (byte-in-room r b p.0 e i)
+    go false e later = later (byte_in_room r b p.0 e i)
 
 -- each call keeps it so
 abbrev BoardInRoom : Board → Type 0
 BoardInRoom b = InRoom b.hire.receiver
 
-done-in-room : (b : Board) (c : Call) → TypedCall c → BoardInRoom b → BoardInRoom ((shape c).done b)
+done_in_room : (b : Board) (c : Call) → TypedCall c → BoardInRoom b → BoardInRoom ((shape c).done b)
 unfolding shape steps handed_over new_hire
-done-in-room b (tick given r) t i = i
-done-in-room b (frame s room) t i = subst⁻¹ BoardInRoom (request_changes b b.hire.receiver s (request_of s)) i
-done-in-room b (handover number n) t i = none-in-room
-done-in-room b (offer bytes) t i = offer-in-room bytes b.hire.receiver t i
-done-in-room b (fetch room) t i = none-in-room
-done-in-room b (save n) t i = i
-done-in-room b (cabinet n) t i = i
-done-in-room b (keep store) t i = i
-done-in-room b (recall store edition) t i = i
-done-in-room b (load area) t i = i
+done_in_room b (tick given r) t i = i
+done_in_room b (frame s room) t i = subst⁻¹ BoardInRoom (request_changes b b.hire.receiver s (request_of s)) i
+done_in_room b (handover number n) t i = none_in_room
+done_in_room b (offer bytes) t i = offer_in_room bytes b.hire.receiver t i
+done_in_room b (fetch room) t i = none_in_room
+done_in_room b (save n) t i = i
+done_in_room b (cabinet n) t i = i
+done_in_room b (keep store) t i = i
+done_in_room b (recall store edition) t i = i
+done_in_room b (load area) t i = i
 
-call-in-room : (b : Board) (c : Call) → TypedCall c → BoardInRoom b → BoardInRoom (board_after b c)
+call_in_room : (b : Board) (c : Call) → TypedCall c → BoardInRoom b → BoardInRoom (board_after b c)
 unfolding board_by
-call-in-room b c t i = go (is_done (outcome_in b c)) (lets_go (shape c) (outcome_in b c))
+call_in_room b c t i = go (is_done (outcome_in b c)) (lets_go (shape c) (outcome_in b c))
   where
     go : (u v : Bool) → BoardInRoom (cond u ((shape c).done b) (cond v (let_go b) b))
-    go true v = done-in-room b c t i
-    go false true = none-in-room
+    go true v = done_in_room b c t i
+    go false true = none_in_room
     go false false = i
 
-calls-in-room : (cs : List Call) (b : Board) → Typed cs → BoardInRoom b → BoardInRoom (after_in board b cs)
+calls_in_room : (cs : List Call) (b : Board) → Typed cs → BoardInRoom b → BoardInRoom (after_in board b cs)
 unfolding after_in
-calls-in-room [] b t i = i
-calls-in-room (c ∷ cs) b t i = calls-in-room cs (board_after b c) t.1 (call-in-room b c t.0 i)
+calls_in_room [] b t i = i
+calls_in_room (c ∷ cs) b t i = calls_in_room cs (board_after b c) t.1 (call_in_room b c t.0 i)
 
-reached-in-room : (cells per_km : ℕ) (cs : List Call) → Typed cs → BoardInRoom (reached board cells per_km cs)
+reached_in_room : (cells per_km : ℕ) (cs : List Call) → Typed cs → BoardInRoom (reached board cells per_km cs)
 unfolding start_board new_hire
-reached-in-room cells per_km cs t = calls-in-room cs (start_board cells per_km) t none-in-room
+reached_in_room cells per_km cs t = calls_in_room cs (start_board cells per_km) t none_in_room
 
 -- ---- the board after any calls
 
 pub record Bounds (cells per_km : ℕ) (cs : List Call) (b : Board) : Type 0 where
   -- the start numbers are kept: with a count of 4 to 16 the board stays usable
   pub count : b.pack.cells ≡ cells
-  pub per-km : b.pack.per_km ≡ per_km
+  pub per_km_kept : b.pack.per_km ≡ per_km
   -- `min` of `kept_count` and `new_count`, and the places of `latest`
-  pub kept-most : b.hire.events.kept ≤ capacity
+  pub kept_most : b.hire.events.kept ≤ capacity
   pub kept : kept_count b.hire.events ≡ b.hire.events.kept
-  pub unsent-most : b.hire.events.unsent ≤ b.hire.events.kept
+  pub unsent_most : b.hire.events.unsent ≤ b.hire.events.kept
   pub unsent : new_count b.hire.events ≡ b.hire.events.unsent
   pub places : length b.hire.events.list ≡ capacity
   -- the tests of `later_of`, which takes tenths past 9 for the tenth tick: there are none; seconds are of 32 bits
@@ -634,85 +634,85 @@ pub record Bounds (cells per_km : ℕ) (cs : List Call) (b : Board) : Type 0 whe
   -- `is_nan` of `bits_of`: volts, amps, and the speed where there is a sensor
   pub volts : is_nan b.hire.sensed.live.volts ≡ false
   pub amps : is_nan b.hire.sensed.live.amps ≡ false
-  pub km-per-hour : 1 ≤ per_km → per_km ≤ 65535 → is_nan (quotient (pos (3600 * gather ◌+◌ 0 b.hire.window)) b.pack.per_km) ≡ false
+  pub km_per_hour : 1 ≤ per_km → per_km ≤ 65535 → is_nan (quotient (pos (3600 * gather ◌+◌ 0 b.hire.window)) b.pack.per_km) ≡ false
   -- the end of `take` in `held_of`: what has come of a frame is what the history tells, and the count is its length
   pub held : held_in b ≡ held_at (deeds cells per_km cs)
-  pub held-count : b.hire.receiver.count ≡ length (held_in b)
+  pub held_count : b.hire.receiver.count ≡ length (held_in b)
   -- the 2 of `lost`: a held frame is the board's own, so a fetch is never answered 2
-  pub held-own : line.holds b ≡ true → foreign (held_in b) ≡ false
+  pub held_own : line.holds b ≡ true → foreign (held_in b) ≡ false
   -- a count past 264, which `receiver` takes for 264
   pub room : Typed cs → length b.hire.receiver.bytes ≡ 264
-  pub held-most : Typed cs → b.hire.receiver.count ≤ 264
+  pub held_most : Typed cs → b.hire.receiver.count ≤ 264
 
 module _ (cells per_km : ℕ) (cs : List Call) where
   -- what the calls did
   abbrev made : List Deed
   made = deeds cells per_km cs
 
-  accepted-ticks : (reset : Deed → Bool) → All (Tick cells) (ticks_since reset made)
-  accepted-ticks reset = accepted cells per_km (Tick cells) (tick-held cells per_km) reset (reverse cs)
+  accepted_ticks : (reset : Deed → Bool) → All (Tick cells) (ticks_since reset made)
+  accepted_ticks reset = accepted cells per_km (Tick cells) (tick_held cells per_km) reset (reverse cs)
 
-  window-held : All (λ p. p ≤ 400) (window_at made)
+  window_held : All (λ p. p ≤ 400) (window_at made)
   unfolding window_at
-  window-held =
-      all-latest (λ p. p ≤ 400) 10 0 (map (λ t. t.1.pulses) (ticks_since hands made)) (omega arith)
-      (all-through (λ p. p ≤ 400) (Tick cells) (λ t. t.1.pulses) (λ t i. i.pulses) (ticks_since hands made) (accepted-ticks hands))
+  window_held =
+      all_latest (λ p. p ≤ 400) 10 0 (map (λ t. t.1.pulses) (ticks_since hands made)) (omega arith)
+      (all_through (λ p. p ≤ 400) (Tick cells) (λ t. t.1.pulses) (λ t i. i.pulses) (ticks_since hands made) (accepted_ticks hands))
 
-  window-length : length (window_at made) ≡ 10
+  window_length : length (window_at made) ≡ 10
   unfolding window_at
-  window-length = length_latest 10 0 (map (λ t. t.1.pulses) (ticks_since hands made))
+  window_length = length_latest 10 0 (map (λ t. t.1.pulses) (ticks_since hands made))
 
-  in-room : Typed cs → BoardInRoom (board_at cells per_km made)
-  in-room t = subst BoardInRoom (account cells per_km cs) (reached-in-room cells per_km cs t)
+  in_room : Typed cs → BoardInRoom (board_at cells per_km made)
+  in_room t = subst BoardInRoom (account cells per_km cs) (reached_in_room cells per_km cs t)
 
-  made-bounds : Bounds cells per_km cs (board_at cells per_km made)
+  made_bounds : Bounds cells per_km cs (board_at cells per_km made)
   unfolding board_at events_at clock_at seconds_at latched_from waits_from latched_at waits_at remembered_at
-  made-bounds =
+  made_bounds =
       let older = newest_kept made in
       let all : length (kept_since made) ≡ length (new_since made) + length older.0 =
       ap length older.1 ∙ length-append (new_since made) older.0 in
-      let short = moments-short cells per_km (reverse cs) in
+      let short = moments_short cells per_km (reverse cs) in
       let fits = ranges cells per_km (reverse cs) in
-      let range = setting-held (settings_at made) fits in
-      let total = sum-most 400 (window_at made) 0 window-held in
-      let ten = window-length in
+      let range = setting_held (settings_at made) fits in
+      let total = sum_most 400 (window_at made) 0 window_held in
+      let ten = window_length in
       record {
         count = refl;
-        per-km = refl;
-        kept-most = omega arith;
+        per_km_kept = refl;
+        kept_most = omega arith;
         kept = omega arith;
-        unsent-most = omega arith;
+        unsent_most = omega arith;
         unsent = omega arith;
         places = length_latest capacity no_event (kept_since made);
         tenths = omega arith;
         seconds = omega arith;
-        doc = wait-held (λ m. (holds m).doc) (moments_at made) short;
-        coc = wait-held (λ m. (holds m).coc) (moments_at made) short;
-        roc = wait-held (λ m. (holds m).roc) (moments_at made) short;
+        doc = wait_held (λ m. (holds m).doc) (moments_at made) short;
+        coc = wait_held (λ m. (holds m).coc) (moments_at made) short;
+        roc = wait_held (λ m. (holds m).roc) (moments_at made) short;
         memory = empty_memory (moments_at made);
         window = ten;
-        counts = window-held;
+        counts = window_held;
         second = omega arith;
         speed = ap pos (omega arith);
         settings = fits;
         wait = (wait_some (settings_at made) fits, range.0);
         high = omega arith;
-        ticks = accepted-ticks never;
-        typed = λ t. accepted-typed cells per_km TypedTick (typed-held cells per_km) (reverse cs) (all-reversed TypedCall cs [] t tt);
-        volts = (live-real made).0;
-        amps = (live-real made).1;
-        km-per-hour = λ some held. quotient-real (pos (3600 * gather ◌+◌ 0 (window_at made))) per_km some (omega arith);
+        ticks = accepted_ticks never;
+        typed = λ t. accepted_typed cells per_km TypedTick (typed_held cells per_km) (reverse cs) (all_reversed TypedCall cs [] t tt);
+        volts = (live_real made).0;
+        amps = (live_real made).1;
+        km_per_hour = λ some held. quotient_real (pos (3600 * gather ◌+◌ 0 (window_at made))) per_km some (omega arith);
         held = frame_by_history cells per_km made;
-        held-count = ap length (sym (held (heard_at made)));
-        held-own = λ e.
+        held_count = ap length (sym (held (heard_at made)));
+        held_own = λ e.
             subst⁻¹ (λ s. foreign s ≡ false) (frame_by_history cells per_km made)
             (ours (heard_at made) (sym (held_by_history cells per_km made) ∙ e));
-        room = λ t. (in-room t).room;
-        held-most = λ t. (in-room t).few;
+        room = λ t. (in_room t).room;
+        held_most = λ t. (in_room t).few;
       }
 
   pub bounds : Bounds cells per_km cs (reached board cells per_km cs)
-  bounds = subst⁻¹ (Bounds cells per_km cs) (account cells per_km cs) made-bounds
+  bounds = subst⁻¹ (Bounds cells per_km cs) (account cells per_km cs) made_bounds
 
 -- ---- the registers of a request: none is `Nothing`, and none is past the 65,535 of `value`
 
@@ -723,9 +723,9 @@ shows Nothing = false
 abbrev pub Shows : Board → ℕ → Type 0
 Shows b at = (shows (shown_by b at) ≡ true) × (at ≤ 65535)
 
-shown-in : (b : Board) (at n i : ℕ) → in_one_range at n ≡ true → i < n → Shows b (at + i)
+shown_in : (b : Board) (at n i : ℕ) → in_one_range at n ≡ true → i < n → Shows b (at + i)
 unfolding shown_at
-shown-in b at n i h l = go (leb (at + n) 56) (leb 100 at) (leb (at + n) 118) (leb 300 at) (leb (at + n) 400) refl refl refl refl refl h
+shown_in b at n i h l = go (leb (at + n) 56) (leb 100 at) (leb (at + n) 118) (leb 300 at) (leb (at + n) 400) refl refl refl refl refl h
   where
     live : leb (at + n) 56 ≡ true → Shows b (at + i)
     live e = let p = leb-true (at + n) 56 e in (rw (le-leb (at + i) 55 (omega arith)), omega arith)
@@ -756,17 +756,17 @@ shown-in b at n i h l = go (leb (at + n) 56) (leb 100 at) (leb (at + n) 118) (le
     go false false d true false e₁ e₂ e₃ e₄ e₅ k = absurd (false≢true k)
     go false false d false g e₁ e₂ e₃ e₄ e₅ k = absurd (false≢true k)
 
-pub registers-shown : (b : Board) (s : List ℕ) (q : Query) (i : ℕ) → request_of s ≡ request.Read q → i < named_by q
+pub registers_shown : (b : Board) (s : List ℕ) (q : Query) (i : ℕ) → request_of s ≡ request.Read q → i < named_by q
     → Shows b (register_in s q i)
 unfolding reads_in_range in_range named_by register_in
-registers-shown b s q i e l = go q (rw e at (sound s).in-range) l
+registers_shown b s q i e l = go q (rw e at (sound s).lies_in_range) l
   where
     go : (q : Query) → in_range s q ≡ true → i < named_by q → Shows b (register_in s q i)
-    go (Registers command at n) h l = shown-in b at n i h l
-    go (Listed n) h l = subst (Shows b) (add-zero (address_at s i)) (shown-in b (address_at s i) 1 0 (each_shown s n i h l) (omega arith))
-    go (Bare command at n) h l = shown-in b at n i h l
+    go (Registers command at n) h l = shown_in b at n i h l
+    go (Listed n) h l = subst (Shows b) (add-zero (address_at s i)) (shown_in b (address_at s i) 1 0 (each_shown s n i h l) (omega arith))
+    go (Bare command at n) h l = shown_in b at n i h l
     go NewEvents h l = absurd (omega arith)
     go AllEvents h l = absurd (omega arith)
     go Temperatures h l = absurd (omega arith)
-    go Cells h l = subst (Shows b) (zero-add i) (shown-in b 0 16 i h l)
+    go Cells h l = subst (Shows b) (zero-add i) (shown_in b 0 16 i h l)
     go (SettingsOf kind n) h l = absurd (omega arith)

@@ -53,7 +53,7 @@ use Rattle.board.proofs.Account.Shown.{same_bits, distance_shown}
 use Rattle.board.proofs.Demands.Demand1.{frame_by_history}
 use Rattle.board.proofs.Demands.Demand2.{account}
 use Rattle.facts.proofs.Calls.{shown_by}
-use Rattle.facts.proofs.Invariants.{All, all-reversed, TypedCall, Typed, Sixteen, TypedDeed, after-typed-calls}
+use Rattle.facts.proofs.Invariants.{All, all_reversed, TypedCall, Typed, Sixteen, TypedDeed, after_typed_calls}
 
 -- what the last accepted write that names a register gave it, as it was sent, the later of two values in one write; else its factory value
 abbrev pub last_given : ℕ → List Deed → ℕ
@@ -114,7 +114,7 @@ module _ (cells per_km : ℕ) where
 
   writes_give : (cs : List Call) → Typed cs → Given (deeds_of cells per_km cs)
   unfolding settings.register_of settings_at bits_of
-  writes_give cs typed = after-typed-calls cells per_km Given kept_given (omega arith, λ at l m. refl) cs typed
+  writes_give cs typed = after_typed_calls cells per_km Given kept_given (omega arith, λ at l m. refl) cs typed
 
 -- ---- rows
 
@@ -268,7 +268,7 @@ module _ (cells per_km : ℕ) (cs : List Call) where
 
   module _ (typed : Typed cs) where
     all_made : Given cells per_km made
-    all_made = writes_give cells per_km (reverse cs) (all-reversed TypedCall cs [] typed tt)
+    all_made = writes_give cells per_km (reverse cs) (all_reversed TypedCall cs [] typed tt)
 
     -- a register by its number
     pub register_reads : (at : ℕ) → 300 ≤ at → at ≤ 399 → shown_by after at ≡ Register (last_given at made)

@@ -50,7 +50,7 @@ use Rattle.board.proofs.Account.Shown.{kept_shown}
 use Rattle.board.proofs.Demands.Demand2.{account}
 use Rattle.board.proofs.Opened.{opened}
 use Rattle.facts.proofs.Calls.{flow, events, handing}
-use Rattle.facts.proofs.Invariants.{All, all_append, all-reversed}
+use Rattle.facts.proofs.Invariants.{All, all_append, all_reversed}
 use Rattle.facts.proofs.Ticks.{fresh, after, storm, still, alternately, recorded}
 
 -- ---- each number in the list is recorded by a tick: all of them in one history, computed
@@ -173,7 +173,7 @@ kept_known_so cells per_km handed k m p = tt
 kept_known_so cells per_km (heard bytes) k m p = p
 kept_known_so cells per_km fetched k m p = p
 kept_known_so cells per_km (loaded es) k m p =
-    all-reversed Known es [] (subst⁻¹ (All Known) m.1 (used_known m.0 m.2)) tt
+    all_reversed Known es [] (subst⁻¹ (All Known) m.1 (used_known m.0 m.2)) tt
 
 pub known_since : (cells per_km : ℕ) (cs : List Call) → KeptKnown (deeds_of cells per_km cs)
 known_since cells per_km cs = after_calls cells per_km KeptKnown (kept_known_so cells per_km) tt cs
@@ -207,7 +207,7 @@ module _ (h : List Deed) (known : KeptKnown h) where
   kept_known : any unrecorded (kept_of (events_at h)) ≡ false
   kept_known =
       ap (any unrecorded) (kept_shown h)
-      ∙ all_known (reverse kept) (all-reversed Known kept [] (all_first capacity (kept_since h) known) tt)
+      ∙ all_known (reverse kept) (all_reversed Known kept [] (all_first capacity (kept_since h) known) tt)
 
   places : length (events_at h).list ≡ capacity
   unfolding events_at

@@ -2,4 +2,3 @@
 // out, why the hypotheses of demand 3 are needed, what reads back, the invariants of boards that calls reach from a start, and the board that
 // rounds down beside ours.
 #![tactic(auto)]
-

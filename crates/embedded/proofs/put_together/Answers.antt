@@ -1,0 +1,6 @@
+-- An outcome, by its number and its register. Assumes nothing.
+use borrow.Author.Rules.{rules}
+use Rattle.embedded.proofs.put_together.Goals as goal
+
+pub returns : goal.returns
+returns c = rw (c.register.ensures, c.number.ensures)

@@ -1,0 +1,6 @@
+-- What the board's own start answers is told. Assumes nothing.
+use borrow.Author.Rules.{rules}
+use Rattle.embedded.proofs.slatecauseway_start.Goals as goal
+
+pub returns : goal.returns
+returns c = rw (c.answered.ensures, c.start.ensures)
