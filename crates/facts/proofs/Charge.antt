@@ -8,14 +8,13 @@ use mathlib.Core.Bool.{Bool, true, false, ◌&&◌, not, cond, false≢true}
 use mathlib.Core.List.{List, [], ◌∷◌, ◌++◌}
 use Prim.Native.Nat.{ℕ, ◌+◌, ◌%◌, ◌-◌, ◌≤◌, min}
 use native.Mathlib.Omega.{arith}
-use lib.IntN.{pos, negsuc}
+use lib.IntN.{pos}
 use lib.ListN.{set, length-append}
 use Rattle.laws.specs.History.{never, each, since, from, any, sum}
 use Rattle.guard.specs.declared.Condition.TheVariants.{UV, OV, OT, DOC, COC, ROC}
 use Rattle.refusals.specs.declared.Refusal.{Refusal}
 use Rattle.refusals.specs.declared.Refusal.TheVariants.{NoBoard}
 use Rattle.refusals.specs.declared.Outcome.{Outcome}
-use Rattle.refusals.specs.declared.Outcome.TheVariants.{Done}
 use Rattle.refusals.specs.Refusals.{is_done, first}
 use Rattle.signed.specs.Signed.{above, below}
 use Rattle.readings.specs.declared.Readings.{Readings}
@@ -41,7 +40,7 @@ use Rattle.board.specs.Changes.{changed_by, asked_deeds}
 use Rattle.board.specs.Calls.{Call, tick, frame, handover, offer, fetch, save, load, cabinet, keep, recall}
 use Rattle.board.specs.Calls.{Seen, seen, Lent, nothing_lent, area_lent, reply_lent, shape, outcome_of, lets_go, board_by, seen_of}
 use Rattle.board.specs.Calls.{outcome_in, board_after, step}
-use Rattle.board.specs.Behaviour.{Behaviour, board, after_in, answers_in}
+use Rattle.board.specs.Behaviour.{Behaviour, board, answers_in}
 use Rattle.board.specs.Account.{Deed, took, wrote, cleared, forgot, sent, handed, heard, fetched, loaded, row, clears, hands, ticking}
 use Rattle.board.specs.Account.{count_at, seconds_at, clock_at, latchings, statistics_at, distance_at, board_at}
 use Rattle.board.specs.Demands.{deeds, reached, without_record, Demand2}

@@ -3,9 +3,9 @@
 -- store itself: crate `classes`, specs/Laws.)
 -- Assumes nothing.
 use mathlib.Core.Path.{◌≡◌, refl, sym, ap, ◌∙◌, subst⁻¹}
-use mathlib.Core.Bool.{Bool, true, false, cond}
+use mathlib.Core.Bool.{true, cond}
 use mathlib.Core.List.{List, [], ◌∷◌, reverse}
-use Prim.Native.Nat.{ℕ, ◌≤◌}
+use Prim.Native.Nat.{ℕ}
 use Rattle.refusals.specs.declared.Outcome.{Outcome}
 use Rattle.refusals.specs.declared.Outcome.TheVariants.{Done}
 use Rattle.refusals.specs.Refusals.{is_done, first}
@@ -16,7 +16,6 @@ use Rattle.settings.proofs.Drafts as drafts
 use Rattle.writes.specs.declared.Form.TheVariants as form
 use Rattle.writes.specs.declared.Pair.{Pair}
 use Rattle.writes.specs.Writes.{pairs_of, drafted_of}
-use Rattle.classes.specs.declared.Kept.{Kept}
 use Rattle.classes.specs.Store.{editions_in, keep_rows, kept_store, kept_by, Keeps, pairs_for, recall_of}
 use Rattle.editions.specs.Editions.{next_edition}
 use native.Mathlib.Omega.{arith}

@@ -3,10 +3,10 @@
 -- as before, without the frame where it was fetched. On boards that calls reach, the register of a 44 is one of the write, its final value
 -- is outside its range, and no lower register ends outside its own; 45 is given exactly where all are in range and the order fails.
 -- Assumes nothing.
-use mathlib.Core.Path.{◌≡◌, refl, sym, ap, ◌∙◌, subst⁻¹}
+use mathlib.Core.Path.{◌≡◌, refl, sym, ap, ◌∙◌}
 use mathlib.Core.Bool.{Bool, true, false, ◌&&◌, ◌||◌, not, cond, false≢true}
 use mathlib.Core.Logic.{◌↔◌}
-use mathlib.Core.List.{List, [], ◌∷◌, ◌++◌}
+use mathlib.Core.List.{List, [], ◌∷◌}
 use Prim.Native.Nat.{ℕ}
 use lib.Dec.{eqb, leb}
 use lib.ListN.{length, get_or}
@@ -30,13 +30,13 @@ use Rattle.writes.specs.Writes.{pairs_of, drafted_of, written_to}
 use Rattle.writes.proofs.Why as why
 use Rattle.requests.specs.declared.Request.{Request}
 use Rattle.requests.specs.declared.Request.TheVariants as request
-use Rattle.requests.specs.Requests.{length_of, fields_in, foreign, damaged, unknown_command, wrong_length, wrong_field, request_rows, asked_of, request_of}
+use Rattle.requests.specs.Requests.{length_of, fields_in, foreign, damaged, unknown_command, wrong_length, wrong_field, asked_of, request_of}
 use Rattle.requests.proofs.Outcomes.{is_refused, accepted, not_refused, right_is_taken}
 use Rattle.replies.specs.Replies.{padded, sealed, nack_of}
 use Rattle.answers.specs.Answers.{asked_rows, reply_by}
 use Rattle.board.specs.declared.Board.{Board}
 use Rattle.board.specs.Line.{held_in, let_go}
-use Rattle.board.specs.Calls.{Call, frame, fetch, reply_lent, shape, frame_rows, board_by, seen_of, outcome_in, board_after, buffer_after}
+use Rattle.board.specs.Calls.{Call, frame, fetch, shape, frame_rows, board_by, seen_of, outcome_in, board_after, buffer_after}
 use Rattle.board.specs.Behaviour.{board}
 use Rattle.board.specs.Demands.{reached}
 use Rattle.facts.proofs.Invariants.{bounds}

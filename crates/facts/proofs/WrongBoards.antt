@@ -38,7 +38,7 @@ use Rattle.board.specs.Account.{hands, distance_at}
 use Rattle.board.specs.Demands.{deeds, Demand1, Demand2, SameKept, Demand3}
 use Rattle.board.proofs.Opened.{accounted}
 use Rattle.facts.proofs.Calls.{flow, still, status, events, handing, latchings, write_800, to_800, ask_316, read_316}
-use Rattle.facts.proofs.Calls.{says, answer_at, outcome_at, byte_at}
+use Rattle.facts.proofs.Calls.{says, outcome_at, byte_at}
 use Rattle.facts.proofs.Invariants.{Typed, Bytes}
 use Rattle.facts.proofs.ReadsBack.{ReadsBack, entry_reads}
 

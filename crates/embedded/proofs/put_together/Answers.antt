@@ -1,5 +1,4 @@
 -- An outcome, by its number and its register. Assumes nothing.
-use borrow.Author.Rules.{rules}
 use Rattle.embedded.proofs.put_together.Goals as goal
 
 pub returns : goal.returns

@@ -1,5 +1,4 @@
 -- What the board's own offer answers is told, with what it took. Assumes nothing.
-use borrow.Author.Rules.{rules}
 use Rattle.embedded.proofs.slatecauseway_offer.Goals as goal
 
 pub returns : goal.returns

@@ -1,5 +1,4 @@
 -- What the board shows, as a word or none. Assumes nothing.
-use borrow.Author.Rules.{rules}
 use Rattle.embedded.proofs.Hands.{some_word, no_word}
 use Rattle.embedded.proofs.slatecauseway_register.Goals as goal
 

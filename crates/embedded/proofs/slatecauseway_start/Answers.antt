@@ -1,5 +1,4 @@
 -- What the board's own start answers is told. Assumes nothing.
-use borrow.Author.Rules.{rules}
 use Rattle.embedded.proofs.slatecauseway_start.Goals as goal
 
 pub returns : goal.returns

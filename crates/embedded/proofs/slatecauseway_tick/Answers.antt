@@ -1,5 +1,4 @@
 -- What the board's own tick answers is told. Assumes nothing.
-use borrow.Author.Rules.{rules}
 use Rattle.embedded.proofs.slatecauseway_tick.Goals as goal
 
 pub returns : goal.returns
