@@ -103,6 +103,7 @@ impl Pack {
 
 impl Clock {
     // A tenth later; at the last tenth of the last second the clock stands.
+    #[tactic(auto, unfolding(crate::specs::Pack::later_of))]
     fn later(self) -> Clock
         ensures { result ≡ later_of self }
     {
