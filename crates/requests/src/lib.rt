@@ -124,6 +124,7 @@ impl Query {
     }
 
     // 0x11 marks what it sends; 0x12 marks nothing.
+    #[tactic(auto, unfolding(crate::specs::Requests::marks))]
     pub fn marks(self) -> bool
         ensures { result ≡ marks self }
     {
