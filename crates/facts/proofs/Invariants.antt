@@ -623,7 +623,7 @@ pub record Bounds (cells per_km : ℕ) (cs : List Call) (b : Board) : Type 0 whe
   pub counts : All (λ p. p ≤ 400) b.hire.window
   pub second : gather ◌+◌ 0 b.hire.window ≤ 4000
   pub speed : exact (pos (3600 * gather ◌+◌ 0 b.hire.window)) ≡ pos (3600 * gather ◌+◌ 0 b.hire.window)
-  -- 2^48 of `ridden_pulses` is met only where the distance has met its own end: `distance-shown` of Account/Shown
+  -- 2^48 of `ridden_pulses` is met only where the distance has met its own end: `distance_shown` of Account/Shown
   -- settings are in range (`ranges`): a wait is 10 to 300 ticks, and `10·r315 - 500` does not stop at 0
   pub settings : Fits b.pack.settings
   pub wait : (1 ≤ b.pack.settings.r332) × (b.pack.settings.r332 ≤ 30)

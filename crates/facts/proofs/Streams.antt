@@ -69,7 +69,7 @@ pub dropped :
 unfolding opened
 dropped = refl
 
--- ---- a board that no call reaches (Invariants.bounds, held-own)
+-- ---- a board that no call reaches (Invariants.bounds, held_own)
 
 -- four bytes are held that are no frame: an offer is refused by 6, a fetch answers 2 and lets them go, and the next answers 7
 abbrev no_frame : Board
