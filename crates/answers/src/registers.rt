@@ -56,6 +56,7 @@ pub(crate) fn listed(pack: Pack, hire: Hire, request: &[u8], count: u8) -> [u16;
     words
 }
 
+#[tactic(auto, unfolding(crate::specs::Making::listed_by))]
 fn listed_word(
     request: &[u8],
     readings: &[u16],

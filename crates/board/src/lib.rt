@@ -73,7 +73,8 @@ impl Board {
             return self.with_outcome(outcome);
         }
         let put = self.ended(number).put(bytes);
-        if !put.is_done() {
+        let is_put = put.is_done();
+        if !is_put {
             return self.with_outcome(put);
         }
         let hire = Hire::new(self.pack.clock.seconds);

@@ -49,15 +49,15 @@ returns-then-not-is_done c =
     let (none-usable, is) = no_board _ c.outcome-outcome.ensures c.is_done.ensures (ap not c.if-not-is_done.true) in
     none-handed none-usable is c.with_outcome.ensures
 
-pub returns-then-not-is_done-2 : goal.returns-then-not-is_done-2
-returns-then-not-is_done-2 c =
+pub returns-then-not-is_put : goal.returns-then-not-is_put
+returns-then-not-is_put c =
     let (some, is) = some_board _ c.outcome-outcome.ensures c.is_done.ensures (ap not c.if-not-is_done.false) in
     not-handed some (rw c.ended.ensures at c.put-put.ensures)
-    (sym c.is_done-2.ensures ∙ not_true_false _ (ap not c.if-not-is_done-2.true)) c.with_outcome-then-not-is_done-2.ensures
+    (sym c.is_done-is_put.ensures ∙ not_true_false _ (ap not c.if-not-is_put.true)) c.with_outcome-then-not-is_put.ensures
 
 pub returns : goal.returns
 returns c =
     let (some, is) = some_board _ c.outcome-outcome.ensures c.is_done.ensures (ap not c.if-not-is_done.false) in
     handed some (rw c.ended.ensures at c.put-put.ensures)
-    (sym c.is_done-2.ensures ∙ not_false_true _ (ap not c.if-not-is_done-2.false))
+    (sym c.is_done-is_put.ensures ∙ not_false_true _ (ap not c.if-not-is_put.false))
     (rw (c.with_hire.ensures, c.new-hire.ensures) at c.with_outcome-2.ensures)
