@@ -1,12 +1,14 @@
 #!/usr/bin/env python3
 """Spells this repository's own definitions and lemmas in snake case: words of camel case and of dashes get underscores.
 
-usage: tools/spell.py [--check] [TOP]      TOP is the top of the repository, by default the folder above this one
+usage: tools/spell.py [--check] [--table] [TOP]      TOP is the top of the repository, by default the folder above this one
+                                                     --check writes nothing, --table prints each name with its new spelling
 
 What turns: a name of camel case with a small first letter, anywhere in .antt, .rt and .edit files and in code spans of .md files, if
 these files declare or use it and the kit does not import it under that spelling; a name with dashes that a file of specs/ or a lemma file
 of proofs/ declares. What Rattle makes (goals and steps of a function's proof) keeps its dashes. Strings and Rust's own names stay.
-It lists names that would fall together, and then writes nothing.
+It lists names that fall together in a file, and writes all the same: a function of the source may have a definition's name, and a lemma
+that would have one gets another, by the lists below. It is run once, after port.py: a second run would give those lists' definitions that name.
 """
 
 import collections
@@ -83,7 +85,7 @@ for name in declared:
     if "-" in name and re.fullmatch(r"[A-Za-z0-9₀-₉'_-]+", name) and name not in foreign and not name.startswith("Need-"):
         table[name] = snake(name)
 
-# A lemma that would have a definition's name gets another: rule 3 of the kit's style.
+# A lemma that would have a definition's name gets another, as the kit's style has it.
 table.update(
     {
         "asked-rows": "asked_rows_lem",

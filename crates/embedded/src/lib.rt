@@ -1,5 +1,6 @@
 // The board for firmware in C: every call of the board and what it shows, under plain names. The board goes in and comes back by value; what
-// was lent is an address and a length. firmware/slatecauseway.h has the same names, and verbs over them that take the board by its address.
+// was lent is a slice. `embedded_c` exports these functions; firmware/slatecauseway.h has the same names, and verbs over them that take the
+// board by its address.
 #![tactic(auto)]
 
 ghost use Rattle.std.specs.Prelude.{◌≡◌, length};
@@ -35,29 +36,25 @@ pub struct Word {
 
 // ---- the calls
 
-#[unsafe(no_mangle)]
-pub extern "C" fn slatecauseway_start(cells: u8, per_km: u16) -> Told
+pub fn slatecauseway_start(cells: u8, per_km: u16) -> Told
     ensures { result ≡ told_of (start_of cells per_km) }
 {
     answered(Board::start(cells, per_km))
 }
 
-#[unsafe(no_mangle)]
-pub extern "C" fn slatecauseway_tick(board: Board, cells: &[u16], readings: Readings) -> Told
+pub fn slatecauseway_tick(board: Board, cells: &[u16], readings: Readings) -> Told
     ensures { result ≡ told_of (answer_to board (tick cells.now readings)) }
 {
     answered(board.tick(cells, readings))
 }
 
-#[unsafe(no_mangle)]
-pub extern "C" fn slatecauseway_frame(board: Board, request: &[u8], reply: &mut [u8]) -> Told
+pub fn slatecauseway_frame(board: Board, request: &[u8], reply: &mut [u8]) -> Told
     ensures { Tells board (frame request.now (length reply.old)) reply.old result reply.new }
 {
     answered(board.frame(request, reply))
 }
 
-#[unsafe(no_mangle)]
-pub extern "C" fn slatecauseway_offer(board: Board, bytes: &[u8]) -> Told
+pub fn slatecauseway_offer(board: Board, bytes: &[u8]) -> Told
     ensures { result ≡ heard_of (hearing board (offer bytes.now)) }
 {
     let heard = board.offer(bytes);
@@ -65,43 +62,37 @@ pub extern "C" fn slatecauseway_offer(board: Board, bytes: &[u8]) -> Told
     put_together(outcome, heard.taken, heard.board)
 }
 
-#[unsafe(no_mangle)]
-pub extern "C" fn slatecauseway_fetch(board: Board, reply: &mut [u8]) -> Told
+pub fn slatecauseway_fetch(board: Board, reply: &mut [u8]) -> Told
     ensures { Tells board (fetch (length reply.old)) reply.old result reply.new }
 {
     answered(board.fetch(reply))
 }
 
-#[unsafe(no_mangle)]
-pub extern "C" fn slatecauseway_handover(board: Board, number: u32, bytes: &mut [u8]) -> Told
+pub fn slatecauseway_handover(board: Board, number: u32, bytes: &mut [u8]) -> Told
     ensures { Tells board (handover number (length bytes.old)) bytes.old result bytes.new }
 {
     answered(board.handover(number, bytes))
 }
 
-#[unsafe(no_mangle)]
-pub extern "C" fn slatecauseway_save(board: Board, area: &mut [u8]) -> Told
+pub fn slatecauseway_save(board: Board, area: &mut [u8]) -> Told
     ensures { Tells board (save (length area.old)) area.old result area.new }
 {
     answered(board.save(area))
 }
 
-#[unsafe(no_mangle)]
-pub extern "C" fn slatecauseway_load(board: Board, area: &[u8]) -> Told
+pub fn slatecauseway_load(board: Board, area: &[u8]) -> Told
     ensures { result ≡ told_of (answer_to board (load area.now)) }
 {
     answered(board.load(area))
 }
 
-#[unsafe(no_mangle)]
-pub extern "C" fn slatecauseway_cabinet(board: Board, slice: &mut [u16]) -> Told
+pub fn slatecauseway_cabinet(board: Board, slice: &mut [u16]) -> Told
     ensures { Tells board (cabinet (length slice.old)) slice.old result slice.new }
 {
     answered(board.cabinet(slice))
 }
 
-#[unsafe(no_mangle)]
-pub extern "C" fn slatecauseway_keep(board: Board, store: &mut [u8]) -> Told
+pub fn slatecauseway_keep(board: Board, store: &mut [u8]) -> Told
     ensures { Kept board store.old result store.new }
 {
     let stored = board.keep(store);
@@ -109,16 +100,14 @@ pub extern "C" fn slatecauseway_keep(board: Board, store: &mut [u8]) -> Told
     put_together(outcome, stored.edition as usize, stored.board)
 }
 
-#[unsafe(no_mangle)]
-pub extern "C" fn slatecauseway_recall(board: Board, store: &[u8], edition: u32) -> Told
+pub fn slatecauseway_recall(board: Board, store: &[u8], edition: u32) -> Told
     ensures { result ≡ told_of (answer_to board (recall store.now edition)) }
 {
     answered(board.recall(store, edition))
 }
 
 // No call of the board: a store put in order. Its number.
-#[unsafe(no_mangle)]
-pub extern "C" fn slatecauseway_tidy(store: &mut [u8]) -> u8
+pub fn slatecauseway_tidy(store: &mut [u8]) -> u8
     ensures { Tidied store.old result store.new }
 {
     let outcome = classes::tidy(store);
@@ -127,8 +116,7 @@ pub extern "C" fn slatecauseway_tidy(store: &mut [u8]) -> u8
 
 // ---- what is shown
 
-#[unsafe(no_mangle)]
-pub extern "C" fn slatecauseway_register(board: Board, at: u16) -> Word
+pub fn slatecauseway_register(board: Board, at: u16) -> Word
     ensures { result ≡ word_of (shown_at board.pack board.hire at) }
 {
     match board.register(at) {
@@ -140,37 +128,32 @@ pub extern "C" fn slatecauseway_register(board: Board, at: u16) -> Word
     }
 }
 
-#[unsafe(no_mangle)]
-pub extern "C" fn slatecauseway_charge_switch(board: Board) -> bool
+pub fn slatecauseway_charge_switch(board: Board) -> bool
     ensures { ShowsCharge board result }
 {
     board.charge_switch()
 }
 
-#[unsafe(no_mangle)]
-pub extern "C" fn slatecauseway_discharge_switch(board: Board) -> bool
+pub fn slatecauseway_discharge_switch(board: Board) -> bool
     ensures { ShowsDischarge board result }
 {
     board.discharge_switch()
 }
 
-#[unsafe(no_mangle)]
-pub extern "C" fn slatecauseway_decision_bits(board: Board) -> u16
+pub fn slatecauseway_decision_bits(board: Board) -> u16
     ensures { ShowsDecision board result }
 {
     board.decision_bits()
 }
 
-#[unsafe(no_mangle)]
-pub extern "C" fn slatecauseway_balancing_bits(board: Board) -> u16
+pub fn slatecauseway_balancing_bits(board: Board) -> u16
     ensures { ShowsBalancing board result }
 {
     board.balancing_bits()
 }
 
 // How many bytes of a reply buffer are the reply.
-#[unsafe(no_mangle)]
-pub extern "C" fn slatecauseway_reply_length(reply: &[u8]) -> usize
+pub fn slatecauseway_reply_length(reply: &[u8]) -> usize
     ensures { result ≡ length_in reply.now }
 {
     answers::length_in(reply)
