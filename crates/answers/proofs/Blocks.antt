@@ -1,5 +1,6 @@
 -- Registers in a row and registers of a list are those that are shown: a block lies in one range, and each range has its row.
 -- Assumes nothing.
+use Rattle.std.specs.Prelude.{Ok}
 use mathlib.Core.Path.{◌≡◌, refl, sym, ap, ◌∙◌}
 use mathlib.Core.Bool.{Bool, true, false, ◌&&◌, ◌||◌, cond, false≢true}
 use mathlib.Core.List.{List}
@@ -182,12 +183,12 @@ first_of f e = ap (λ (l : List ℕ). get_or l 0 0) e ∙ row_at 127 f 1 0 (omeg
 
 module _ (p : Pack) (h : Hire) (s : List ℕ) where
   -- the registers of a block, of a bare reply, and the cells lie in one range
-  pub registers_lie : (command at n : ℕ) {count : ℕ} → request_of s ≡ request.Read (Registers command at n) → count ≡ count_of p h (Registers command at n)
+  pub registers_lie : (command at n : ℕ) {count : ℕ} → request_of s ≡ Ok (request.Read (Registers command at n)) → count ≡ count_of p h (Registers command at n)
       → in_one_range at count ≡ true
   unfolding in_range reads_in_range word_count
   registers_lie command at n asks e = rw e (rw asks at (sound s).lies_in_range)
 
-  pub bare_lie : (command at n : ℕ) {count : ℕ} → request_of s ≡ request.Read (Bare command at n) → count ≡ count_of p h (Bare command at n)
+  pub bare_lie : (command at n : ℕ) {count : ℕ} → request_of s ≡ Ok (request.Read (Bare command at n)) → count ≡ count_of p h (Bare command at n)
       → in_one_range at count ≡ true
   unfolding in_range reads_in_range word_count
   bare_lie command at n asks e = rw e (rw asks at (sound s).lies_in_range)

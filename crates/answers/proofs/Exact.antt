@@ -1,5 +1,8 @@
 -- The bytes of a reply buffer that are told to be the reply are the reply: each kind has the length that its second and third byte say.
 -- Assumes nothing.
+use Rattle.refusals.specs.declared.Refusal.TheVariants.{WrongField}
+use Rattle.std.specs.Option.{ok_or}
+use Rattle.requests.specs.declared.Request.{Request}
 use mathlib.Core.Path.{◌≡◌, refl, sym, ap, ◌∙◌}
 use mathlib.Core.Bool.{Bool, true, false, cond}
 use mathlib.Core.List.{List, [], ◌∷◌, ◌++◌, append-nil}
@@ -10,11 +13,8 @@ use lib.Dec.{eqb, ltb}
 use lib.ListN.{length, take, get_or, replicate, length-append, length-replicate}
 use lib.Seq.{take-append-add}
 use Rattle.crc.specs.Crc.{crc_of}
-use Rattle.refusals.specs.declared.Left.{Left}
-use Rattle.refusals.specs.declared.Left.TheVariants.{Zeros, Nack}
-use Rattle.refusals.specs.declared.Outcome.{Outcome}
-use Rattle.refusals.specs.declared.Outcome.TheVariants.{Done, Refused}
-use Rattle.refusals.specs.Refusals.{left_by, first}
+use Rattle.std.specs.Prelude.{Option, None, Some, Ok, Err}
+use Rattle.refusals.specs.Refusals.{Outcome, left_by, first}
 use Rattle.events.specs.declared.Event.{Event}
 use Rattle.events.specs.Events.{new_count, kept_count, kept_of, new_of, event_longs}
 use Rattle.settings.specs.Settings as settings
@@ -25,9 +25,9 @@ use Rattle.requests.specs.declared.Query.TheVariants.{Registers, Listed, Bare, N
 use Rattle.requests.specs.declared.Command.{Command}
 use Rattle.requests.specs.declared.Command.TheVariants.{Clear, Block, QuickBlock, AskList, Write, Ask, AskSettings, Unknown}
 use Rattle.requests.specs.declared.Expected.{Expected}
-use Rattle.requests.specs.declared.Request.{Request}
 use Rattle.requests.specs.declared.Request.TheVariants as request
-use Rattle.requests.specs.Requests.{expected_of, expected_in, address_at, fields_of, request_rows, asked_of, request_by, request_of}
+use Rattle.requests.specs.Requests.{expected_of, expected_in, address_at, fields_of, request_rows, asked_of, request_by, request_of, Asked}
+use Rattle.requests.specs.Requests.{fields}
 use Rattle.numbers.specs.Numbers.{be16, be16_at, le16, le32}
 use Rattle.replies.specs.Replies.{word16, words, sealed, padded}
 use Rattle.replies.proofs.Writing.{words_length}
@@ -61,17 +61,17 @@ asks (Ask q) pl = fits q pl
 asks AskSettings pl = true
 asks Unknown pl = true
 
-reads : Request → ℕ → Bool
-reads (request.Refused refusal) pl = true
-reads request.ClearEvents pl = true
-reads request.ClearStatistics pl = true
-reads (request.Write f n) pl = true
-reads (request.Read q) pl = fits q pl
+reads : Asked → ℕ → Bool
+reads (Err refusal) pl = true
+reads (Ok request.ClearEvents) pl = true
+reads (Ok request.ClearStatistics) pl = true
+reads (Ok (request.Write f n)) pl = true
+reads (Ok (request.Read q)) pl = fits q pl
 
 record Asks (pl : ℕ) (e : Expected) : Type 0 where
   asks : asks e.command pl ≡ true
 
-record Reads (pl : ℕ) (q : Request) : Type 0 where
+record Reads (pl : ℕ) (q : Asked) : Type 0 where
   reads : reads q pl ≡ true
 
 either : {A : Type 0} (P : A → Type 0) (t : Bool) {x y : A} → P x → P y → P (cond t x y)
@@ -101,24 +101,31 @@ expected c third seventh pl =
     (either (Asks pl) (eqb c 0x1D) (record { asks = refl })
     (record { asks = refl }))))))))))))))))))
 
-fields : (s : List ℕ) (pl : ℕ) (k : Command) → asks k pl ≡ true → Reads pl (fields_of k s).asks
+-- fields that are against their rule ask nothing
+by_rule : (pl : ℕ) (good : Bool) (q : Request) → Reads pl (Ok q) → Reads pl (ok_or (fields good q) WrongField)
+unfolding reads
+by_rule pl true q r = r
+by_rule pl false q r = record { reads = refl }
+
+by_fields : (s : List ℕ) (pl : ℕ) (k : Command) → asks k pl ≡ true → Reads pl (ok_or (fields_of k s) WrongField)
 unfolding reads fits asks fields_of length_by
-fields s pl Clear e = either (Reads pl) (eqb (get_or s 2 0) 1) (record { reads = refl }) (record { reads = refl })
-fields s pl Block e = record { reads = eq-eqb (5 + pl) (5 + pl) refl }
-fields s pl QuickBlock e = record { reads = eq-eqb (5 + pl) (5 + pl) refl }
-fields s pl AskList e = record { reads = refl }
-fields s pl (Write f) e = record { reads = refl }
-fields s pl (Ask q) e = record { reads = e }
-fields s pl AskSettings e = record { reads = refl }
-fields s pl Unknown e = record { reads = refl }
+by_fields s pl Clear e =
+    by_rule pl _ _ (either (λ (q : Request). Reads pl (Ok q)) (eqb (get_or s 2 0) 1) (record { reads = refl }) (record { reads = refl }))
+by_fields s pl Block e = by_rule pl _ _ (record { reads = eq-eqb (5 + pl) (5 + pl) refl })
+by_fields s pl QuickBlock e = by_rule pl _ _ (record { reads = eq-eqb (5 + pl) (5 + pl) refl })
+by_fields s pl AskList e = by_rule pl _ _ (record { reads = refl })
+by_fields s pl (Write f) e = by_rule pl _ _ (record { reads = refl })
+by_fields s pl (Ask q) e = record { reads = e }
+by_fields s pl AskSettings e = by_rule pl _ _ (record { reads = refl })
+by_fields s pl Unknown e = record { reads = refl }
 
 asked : (s : List ℕ) (pl : ℕ) → Reads pl (request_of s)
 unfolding reads request_of
 asked s pl = go (first (request_rows s))
   where
     go : (o : Outcome) → Reads pl (request_by o (asked_of s))
-    go Done = fields s pl (expected_in s).command (expected (get_or s 1 0) (get_or s 2 0) (get_or s 6 0) pl).asks
-    go (Refused refusal) = record { reads = refl }
+    go (Ok done) = by_fields s pl (expected_in s).command (expected (get_or s 1 0) (get_or s 2 0) (get_or s 6 0) pl).asks
+    go (Err refusal) = record { reads = refl }
 
 -- ---- a reply in its buffer
 
@@ -205,24 +212,24 @@ module _ (room : ℕ) (large : 259 ≤ room) where
     taken form.Block n l = headed 0x01 (0x0B ∷ []) l refl
     taken form.List n l = headed 0x01 (0x0D ∷ []) l refl
 
-    accepted : (q : Request) → ((pl : ℕ) → reads q pl ≡ true) → length (accepted_reply p h s q) ≤ 259 → Exact room (accepted_reply p h s q)
+    accepted : (q : Asked) → ((pl : ℕ) → reads q pl ≡ true) → length (accepted_reply p h s q) ≤ 259 → Exact room (accepted_reply p h s q)
     unfolding accepted_reply reads length_by
-    accepted (request.Refused refusal) f l = none room
-    accepted request.ClearEvents f l = headed 0x01 (0x02 ∷ []) l refl
-    accepted request.ClearStatistics f l = headed 0x01 (0x02 ∷ []) l refl
-    accepted (request.Write f n) g l = taken f n l
-    accepted (request.Read q) f l = body q f l
+    accepted (Err refusal) f l = none room
+    accepted (Ok request.ClearEvents) f l = headed 0x01 (0x02 ∷ []) l refl
+    accepted (Ok request.ClearStatistics) f l = headed 0x01 (0x02 ∷ []) l refl
+    accepted (Ok (request.Write f n)) g l = taken f n l
+    accepted (Ok (request.Read q)) f l = body q f l
 
-    refused : (left : Left) → length (left_reply left s) ≤ 259 → Exact room (left_reply left s)
+    refused : (left : Option ℕ) → length (left_reply left s) ≤ 259 → Exact room (left_reply left s)
     unfolding length_by
-    refused Zeros l = none room
-    refused (Nack error) l = headed 0x00 (get_or s 1 0 ∷ error ∷ []) l refl
+    refused None l = none room
+    refused (Some error) l = headed 0x00 (get_or s 1 0 ∷ error ∷ []) l refl
 
-    every : (q : Request) → ((pl : ℕ) → reads q pl ≡ true) → (o : Outcome) → length (reply_by o s (accepted_reply p h s q)) ≤ 259
+    every : (q : Asked) → ((pl : ℕ) → reads q pl ≡ true) → (o : Outcome) → length (reply_by o s (accepted_reply p h s q)) ≤ 259
         → Exact room (reply_by o s (accepted_reply p h s q))
     unfolding reply_by
-    every q f Done l = accepted q f l
-    every q f (Refused refusal) l = refused (left_by refusal) l
+    every q f (Ok done) l = accepted q f l
+    every q f (Err refusal) l = refused (left_by refusal) l
 
 -- a frame's whole reply, and nothing after it
 pub exact : (p : Pack) (h : Hire) (s : List ℕ) (room : ℕ) → 259 ≤ room → Exact room (asked_reply p h s (request_of s))

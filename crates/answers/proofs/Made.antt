@@ -9,11 +9,8 @@ use native.Mathlib.Omega.{arith}
 use lib.ListN.{length, take, length-append}
 use lib.Dec.{eqb}
 use Rattle.numbers.specs.Numbers.{le16, le32, Wrote, half_at}
-use Rattle.refusals.specs.declared.Left.{Left}
-use Rattle.refusals.specs.declared.Left.TheVariants.{Zeros, Nack}
-use Rattle.refusals.specs.declared.Outcome.{Outcome}
-use Rattle.refusals.specs.declared.Outcome.TheVariants.{Done, Refused}
-use Rattle.refusals.specs.Refusals.{left_by}
+use Rattle.std.specs.Prelude.{Option, None, Some, Ok, Err}
+use Rattle.refusals.specs.Refusals.{Outcome, Done, left_by}
 use Rattle.refusals.proofs.Rows.{refused_not}
 use Rattle.events.specs.Events.{kept_count, new_count, kept_of, new_of, event_longs}
 use Rattle.settings.specs.Settings as settings
@@ -21,16 +18,16 @@ use Rattle.writes.specs.declared.Form.{Form}
 use Rattle.writes.specs.declared.Form.TheVariants as form
 use Rattle.requests.specs.declared.Query.{Query}
 use Rattle.requests.specs.declared.Query.TheVariants.{Registers, Listed, Bare, NewEvents, AllEvents, Temperatures, Cells, SettingsOf}
-use Rattle.requests.specs.declared.Request.{Request}
 use Rattle.requests.specs.declared.Request.TheVariants as request
-use Rattle.requests.specs.Requests.{address_at, request_of, command_of, has_length, high_first, word_count}
+use Rattle.requests.specs.Requests.{address_at, request_of, command_of, has_length, high_first, word_count, Asked}
 use Rattle.replies.specs.Replies.{word16, words, sealed, ack_of, Filled, Lengthened, length_byte}
 use Rattle.numbers.proofs.Writing.{join_at, of_32}
 use Rattle.replies.proofs.Writing.{reply, sealed_length, words_alike, words_length, two_bytes, length_words}
 use Rattle.pack.specs.declared.Pack.{Pack}
 use Rattle.hire.specs.declared.Hire.{Hire}
 use Rattle.answers.specs.Registers.{value_at}
-use Rattle.answers.specs.Answers.{with_register, body_by, body_of, payload_of, cells_of, taken_reply, accepted_reply, reply_bytes, left_reply}
+use Rattle.answers.specs.Answers.{with_register, body_by, body_of, payload_of, cells_of, taken_reply, accepted_reply, reply_bytes}
+use Rattle.answers.specs.Answers.{left_reply}
 use Rattle.answers.specs.Answers.{reply_by, asked_outcome, asked_reply}
 use Rattle.answers.specs.Making.{count_of, listed_by, listed_word, word_of, reply_of}
 use Rattle.answers.proofs.Payloads.{payload_most}
@@ -133,7 +130,7 @@ payload p h Cells = refl
 payload p h (SettingsOf kind n) = refl
 
 -- so no reply to a query has more than 127
-pub few_words : (p : Pack) (h : Hire) (s : List ℕ) (q : Query) {n : ℕ} → n ≡ count_of p h q → request_of s ≡ request.Read q → n ≤ 127
+pub few_words : (p : Pack) (h : Hire) (s : List ℕ) (q : Query) {n : ℕ} → n ≡ count_of p h q → request_of s ≡ Ok (request.Read q) → n ≤ 127
 few_words p h s q e asks = rw e (omega (arith, payload p h q, payload_most p h s q asks))
 
 -- ---- a reply has at most 259 bytes
@@ -157,31 +154,31 @@ sealed_short : (xs : List ℕ) → length xs ≤ 257 → length (sealed xs) ≤ 
 sealed_short xs m = let e = sealed_length xs in omega arith
 
 -- the reply to a write that is taken
-taken_length : (p : Pack) (h : Hire) (f : Form) (s : List ℕ) (n : ℕ) → length (taken_reply f s n) + 2 ≡ reply_bytes p h (request.Write f n)
+taken_length : (p : Pack) (h : Hire) (f : Form) (s : List ℕ) (n : ℕ) → length (taken_reply f s n) + 2 ≡ reply_bytes p h (Ok (request.Write f n))
 unfolding taken_reply reply_bytes
 taken_length p h form.Modbus s n = refl
 taken_length p h form.Block s n = refl
 taken_length p h form.List s n = refl
 
-taken_short : (p : Pack) (h : Hire) (f : Form) (n : ℕ) → reply_bytes p h (request.Write f n) ≤ 8
+taken_short : (p : Pack) (h : Hire) (f : Form) (n : ℕ) → reply_bytes p h (Ok (request.Write f n)) ≤ 8
 unfolding reply_bytes
 taken_short p h form.Modbus n = omega arith
 taken_short p h form.Block n = omega arith
 taken_short p h form.List n = omega arith
 
-refused_short : (l : Left) (s : List ℕ) → length (left_reply l s) ≤ 259
-refused_short Zeros s = omega arith
-refused_short (Nack error) s = sealed_short _ (omega arith)
+refused_short : (l : Option ℕ) (s : List ℕ) → length (left_reply l s) ≤ 259
+refused_short None s = omega arith
+refused_short (Some error) s = sealed_short _ (omega arith)
 
 module _ (p : Pack) (h : Hire) (s : List ℕ) where
   -- an accepted request's has as many bytes as its kind says
-  accepted_bytes : (q : Request) → asked_outcome p s q ≡ Done → length (accepted_reply p h s q) ≡ reply_bytes p h q
+  accepted_bytes : (q : Asked) → asked_outcome p s q ≡ Done → length (accepted_reply p h s q) ≡ reply_bytes p h q
   unfolding asked_outcome accepted_reply reply_bytes
-  accepted_bytes (request.Refused refusal) e = absurd (refused_not refusal e)
-  accepted_bytes request.ClearEvents e = sealed_length (ack_of 0x02)
-  accepted_bytes request.ClearStatistics e = sealed_length (ack_of 0x02)
-  accepted_bytes (request.Write f n) e = sealed_length (taken_reply f s n) ∙ taken_length p h f s n
-  accepted_bytes (request.Read q) e =
+  accepted_bytes (Err refusal) e = absurd (refused_not refusal e)
+  accepted_bytes (Ok request.ClearEvents) e = sealed_length (ack_of 0x02)
+  accepted_bytes (Ok request.ClearStatistics) e = sealed_length (ack_of 0x02)
+  accepted_bytes (Ok (request.Write f n)) e = sealed_length (taken_reply f s n) ∙ taken_length p h f s n
+  accepted_bytes (Ok (request.Read q)) e =
       sealed_length (body_of p h s q) ∙ ap (λ n. n + 2) (body_length p h s q) ∙ add (has_length q) (payload_of p h q)
     where
       add : (has : Bool) (n : ℕ) → cond has 3 2 + n + 2 ≡ cond has 5 4 + n
@@ -193,12 +190,12 @@ module _ (p : Pack) (h : Hire) (s : List ℕ) where
   unfolding reply_bytes
   most_259 = go (request_of s) refl
     where
-      go : (q : Request) → request_of s ≡ q → reply_bytes p h q ≤ 259
-      go (request.Refused refusal) e = omega arith
-      go request.ClearEvents e = omega arith
-      go request.ClearStatistics e = omega arith
-      go (request.Write f n) e = omega (arith, taken_short p h f n)
-      go (request.Read q) e = omega (arith, within_three (has_length q), two_more (has_length q), payload_most p h s q e)
+      go : (q : Asked) → request_of s ≡ q → reply_bytes p h q ≤ 259
+      go (Err refusal) e = omega arith
+      go (Ok request.ClearEvents) e = omega arith
+      go (Ok request.ClearStatistics) e = omega arith
+      go (Ok (request.Write f n)) e = omega (arith, taken_short p h f n)
+      go (Ok (request.Read q)) e = omega (arith, within_three (has_length q), two_more (has_length q), payload_most p h s q e)
 
   -- so every reply has room
   pub reply_length : length (asked_reply p h s (request_of s)) ≤ 259
@@ -206,9 +203,9 @@ module _ (p : Pack) (h : Hire) (s : List ℕ) where
   reply_length = go (asked_outcome p s (request_of s)) refl
     where
       go : (o : Outcome) → asked_outcome p s (request_of s) ≡ o → length (reply_by o s (accepted_reply p h s (request_of s))) ≤ 259
-      go Done e = omega (arith, accepted_bytes (request_of s) e, most_259)
-      go (Refused refusal) e = refused_short (left_by refusal) s
+      go (Ok done) e = omega (arith, accepted_bytes (request_of s) e, most_259)
+      go (Err refusal) e = refused_short (left_by refusal) s
 
-  pub reply_bytes_lem : (q : Request) → asked_outcome p s q ≡ Done → length (asked_reply p h s q) ≡ reply_bytes p h q
+  pub reply_bytes_lem : (q : Asked) → asked_outcome p s q ≡ Done → length (asked_reply p h s q) ≡ reply_bytes p h q
   unfolding reply_by
   reply_bytes_lem q e = ap (λ (o : Outcome). length (reply_by o s (accepted_reply p h s q))) e ∙ accepted_bytes q e

@@ -1,6 +1,7 @@
 -- W-209 of document 02: with 127 registers, 62 events, 16 cells, 100 settings and the list reads of W-202, no payload exceeds 254. Why: a
 -- request counts no more than its command may (`requests`, Sound), at most 62 events are kept, and a board has at most 16 cells.
 -- Assumes nothing.
+use Rattle.std.specs.Prelude.{Ok}
 use mathlib.Core.Path.{◌≡◌}
 use mathlib.Core.Bool.{true}
 use mathlib.Core.List.{List}
@@ -52,5 +53,5 @@ most_254 Cells = omega arith
 most_254 (SettingsOf kind n) = omega arith
 
 -- no payload exceeds 254, of whatever bytes the request is made, and whatever pack and hire hold
-pub payload_most : (p : Pack) (h : Hire) (s : List ℕ) (q : Query) → request_of s ≡ request.Read q → payload_of p h q ≤ 254
+pub payload_most : (p : Pack) (h : Hire) (s : List ℕ) (q : Query) → request_of s ≡ Ok (request.Read q) → payload_of p h q ≤ 254
 payload_most p h s q asks = omega (arith, within_most p h q (rw asks at (sound s).few), most_254 q)

@@ -1,13 +1,10 @@
 -- Frames: what is answered to a request of bytes s, from a pack and a hire (what it asks: crate `requests`).
 -- Assumes nothing.
-use Rattle.std.specs.Prelude.{Bool, true, cond, List, [], ◌∷◌, ◌++◌, ◌≡◌, ℕ, ◌+◌, ◌*◌, min, eqb, get_or}
+use Rattle.std.specs.Prelude.{Bool, true, cond, List, [], ◌∷◌, ◌++◌, ◌≡◌, ℕ, ◌+◌, ◌*◌, min, eqb, get_or, Option, None, Some, Result, Ok}
+use Rattle.std.specs.Prelude.{Err}
 use Rattle.numbers.specs.Numbers.{le16, be16, le32, be16_at}
-use Rattle.refusals.specs.declared.Left.{Left}
-use Rattle.refusals.specs.declared.Left.TheVariants.{Zeros, Nack}
-use Rattle.refusals.specs.declared.Outcome.{Outcome}
-use Rattle.refusals.specs.declared.Outcome.TheVariants.{Done, Refused}
+use Rattle.refusals.specs.Refusals.{Outcome, Done, Refused, giving, left_by}
 use Rattle.refusals.specs.declared.Refusal.{Refusal}
-use Rattle.refusals.specs.Refusals.{left_by}
 use Rattle.events.specs.Events.{kept_count, new_count, kept_of, new_of, event_longs}
 use Rattle.settings.specs.declared.Settings.{Settings}
 use Rattle.settings.specs.Settings as settings
@@ -18,13 +15,12 @@ use Rattle.writes.specs.declared.Pair.{Pair}
 use Rattle.writes.specs.Writes.{pairs_of, drafted_of, written_to}
 use Rattle.requests.specs.declared.Query.{Query}
 use Rattle.requests.specs.declared.Query.TheVariants.{Registers, Listed, Bare, NewEvents, AllEvents, Temperatures, Cells, SettingsOf}
-use Rattle.requests.specs.declared.Request.{Request}
 use Rattle.requests.specs.declared.Request.TheVariants as request
-use Rattle.requests.specs.Requests.{address_at, request_of, has_length}
+use Rattle.requests.specs.Requests.{address_at, request_of, has_length, Asked}
 use Rattle.replies.specs.Replies.{word16, words, sealed, nack_of, ack_of, Filled}
 use Rattle.pack.specs.declared.Pack.{Pack}
 use Rattle.hire.specs.declared.Hire.{Hire}
-use Rattle.answers.specs.declared.Told.{Told}
+use Rattle.answers.specs.declared.Taken.{Taken}
 use Rattle.answers.specs.Registers.{value_at}
 
 -- ---- the reply to a query, before its CRC
@@ -82,45 +78,45 @@ taken_reply form.List s n = ack_of 0x0D
 
 module _ (p : Pack) (h : Hire) where
   -- to a request that is accepted
-  unfoldable pub accepted_reply : List ℕ → Request → List ℕ
-  accepted_reply s (request.Refused refusal) = []
-  accepted_reply s request.ClearEvents = sealed (ack_of 0x02)
-  accepted_reply s request.ClearStatistics = sealed (ack_of 0x02)
-  accepted_reply s (request.Write f n) = sealed (taken_reply f s n)
-  accepted_reply s (request.Read q) = sealed (body_of p h s q)
+  unfoldable pub accepted_reply : List ℕ → Asked → List ℕ
+  accepted_reply s (Err refusal) = []
+  accepted_reply s (Ok request.ClearEvents) = sealed (ack_of 0x02)
+  accepted_reply s (Ok request.ClearStatistics) = sealed (ack_of 0x02)
+  accepted_reply s (Ok (request.Write f n)) = sealed (taken_reply f s n)
+  accepted_reply s (Ok (request.Read q)) = sealed (body_of p h s q)
 
   -- how many bytes it has: an ACK 5, that to 0x10 8; else AA, CMD, PL where there is one, data and CRC
-  unfoldable pub reply_bytes : Request → ℕ
-  reply_bytes (request.Refused refusal) = 0
-  reply_bytes request.ClearEvents = 5
-  reply_bytes request.ClearStatistics = 5
-  reply_bytes (request.Write form.Modbus n) = 8
-  reply_bytes (request.Write form.Block n) = 5
-  reply_bytes (request.Write form.List n) = 5
-  reply_bytes (request.Read q) = cond (has_length q) 5 4 + payload_of p h q
+  unfoldable pub reply_bytes : Asked → ℕ
+  reply_bytes (Err refusal) = 0
+  reply_bytes (Ok request.ClearEvents) = 5
+  reply_bytes (Ok request.ClearStatistics) = 5
+  reply_bytes (Ok (request.Write form.Modbus n)) = 8
+  reply_bytes (Ok (request.Write form.Block n)) = 5
+  reply_bytes (Ok (request.Write form.List n)) = 5
+  reply_bytes (Ok (request.Read q)) = cond (has_length q) 5 4 + payload_of p h q
 
 -- to a request that is refused: none, or a NACK of its command with the error
-abbrev pub left_reply : Left → List ℕ → List ℕ
-left_reply Zeros s = []
-left_reply (Nack error) s = sealed (nack_of (get_or s 1 0) error)
+abbrev pub left_reply : Option ℕ → List ℕ → List ℕ
+left_reply None s = []
+left_reply (Some error) s = sealed (nack_of (get_or s 1 0) error)
 
 abbrev pub refused_reply : Refusal → List ℕ → List ℕ
 refused_reply refusal s = left_reply (left_by refusal) s
 
 -- to any, by what it comes to
 unfoldable pub reply_by : Outcome → List ℕ → List ℕ → List ℕ
-reply_by Done s accepted = accepted
-reply_by (Refused refusal) s accepted = refused_reply refusal s
+reply_by (Ok done) s accepted = accepted
+reply_by (Err refusal) s accepted = refused_reply refusal s
 
 -- ---- what a request comes to
 
 -- its own refusal; a setting against its rule, where the pack's settings stand. A query is always accepted
-abbrev pub asked_rows : Pack → List ℕ → Request → List (Refusal × Bool)
-asked_rows p s (request.Refused refusal) = (refusal, true) ∷ []
-asked_rows p s request.ClearEvents = []
-asked_rows p s request.ClearStatistics = []
-asked_rows p s (request.Write f n) = settings.write_rows (drafted_of (settings.draft_of p.settings) (pairs_of f s n)).values
-asked_rows p s (request.Read q) = []
+abbrev pub asked_rows : Pack → List ℕ → Asked → List (Refusal × Bool)
+asked_rows p s (Err refusal) = (refusal, true) ∷ []
+asked_rows p s (Ok request.ClearEvents) = []
+asked_rows p s (Ok request.ClearStatistics) = []
+asked_rows p s (Ok (request.Write f n)) = settings.write_rows (drafted_of (settings.draft_of p.settings) (pairs_of f s n)).values
+asked_rows p s (Ok (request.Read q)) = []
 
 -- ---- the same by parts, as the functions have them
 
@@ -128,28 +124,29 @@ abbrev pub write_outcome : Settings → List Pair → Outcome
 write_outcome st ps = settings.outcome_of (drafted_of (settings.draft_of st) ps)
 
 -- what a request comes to, the settings that then stand, and its reply
-unfoldable pub asked_outcome : Pack → List ℕ → Request → Outcome
-asked_outcome p s (request.Refused refusal) = Refused refusal
-asked_outcome p s request.ClearEvents = Done
-asked_outcome p s request.ClearStatistics = Done
-asked_outcome p s (request.Write f n) = write_outcome p.settings (pairs_of f s n)
-asked_outcome p s (request.Read q) = Done
+unfoldable pub asked_outcome : Pack → List ℕ → Asked → Outcome
+asked_outcome p s (Err refusal) = Refused refusal
+asked_outcome p s (Ok request.ClearEvents) = Done
+asked_outcome p s (Ok request.ClearStatistics) = Done
+asked_outcome p s (Ok (request.Write f n)) = write_outcome p.settings (pairs_of f s n)
+asked_outcome p s (Ok (request.Read q)) = Done
 
-unfoldable pub asked_settings : Pack → List ℕ → Request → Settings
-asked_settings p s (request.Refused refusal) = p.settings
-asked_settings p s request.ClearEvents = p.settings
-asked_settings p s request.ClearStatistics = p.settings
-asked_settings p s (request.Write f n) = (written_to p.settings (pairs_of f s n)).settings
-asked_settings p s (request.Read q) = p.settings
+unfoldable pub asked_settings : Pack → List ℕ → Asked → Settings
+asked_settings p s (Err refusal) = p.settings
+asked_settings p s (Ok request.ClearEvents) = p.settings
+asked_settings p s (Ok request.ClearStatistics) = p.settings
+asked_settings p s (Ok (request.Write f n)) = settings.standing_of p.settings (written_to p.settings (pairs_of f s n))
+asked_settings p s (Ok (request.Read q)) = p.settings
 
-abbrev pub asked_reply : Pack → Hire → List ℕ → Request → List ℕ
+abbrev pub asked_reply : Pack → Hire → List ℕ → Asked → List ℕ
 asked_reply p h s q = reply_by (asked_outcome p s q) s (accepted_reply p h s q)
 
--- of the bytes s: what they ask, what that comes to, the settings that then stand, and the reply into a buffer of any length
-pub record Answers (p : Pack) (h : Hire) (s before : List ℕ) (r : Told) (after : List ℕ) : Type 0 where
-  pub told_is : r ≡ record {
-    asked = request_of s;
-    outcome = asked_outcome p s (request_of s);
-    settings = asked_settings p s (request_of s);
-  }
+-- what is taken of it, where it is accepted
+abbrev pub taking : Pack → List ℕ → Asked → Result Taken Refusal
+taking p s (Err refusal) = Err refusal
+taking p s (Ok asked) = giving (asked_outcome p s (Ok asked)) (record { asked = asked; settings = asked_settings p s (Ok asked) })
+
+-- of the bytes s: what they ask and the settings that then stand, or the refusal; and the reply into a buffer of any length
+pub record Answers (p : Pack) (h : Hire) (s before : List ℕ) (r : Result Taken Refusal) (after : List ℕ) : Type 0 where
+  pub taken_is : r ≡ taking p s (request_of s)
   pub reply_is : Filled before (asked_reply p h s (request_of s)) after

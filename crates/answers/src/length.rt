@@ -2,12 +2,11 @@
 ghost use Rattle.std.specs.Prelude.{◌≡◌, ◌≤◌, length};
 ghost use Rattle.answers.specs.Length.{length_by, length_in};
 
-use numbers::lesser;
-
 // Room for the longest reply.
 const ROOM: usize = 259;
 
 // How many bytes of a reply buffer are the reply.
+#[tactic(auto, unfolding(crate::specs::Length::length_in))]
 pub fn length_in(buffer: &[u8]) -> usize
     ensures { (result ≡ length_in buffer.now) × (result ≤ length buffer.now) }
 {
@@ -17,10 +16,11 @@ pub fn length_in(buffer: &[u8]) -> usize
     if buffer[0] != 0xAA {
         return 0;
     }
-    lesser(length_by(buffer[1], buffer[2]), buffer.len())
+    length_by(buffer[1], buffer[2]).min(buffer.len())
 }
 
 // A NACK, an ACK, 0x10's, those with no length byte; every other says its own.
+#[tactic(auto, unfolding(crate::specs::Length::length_by))]
 fn length_by(command: u8, pl: u8) -> usize
     ensures { result ≡ length_by command pl }
 {

@@ -4,91 +4,61 @@
 mod length;
 mod registers;
 
-ghost use Rattle.std.specs.Prelude.{◌∷◌, ◌++◌, ◌≡◌, ◌≤◌, min, length, get_or};
+ghost use Rattle.std.specs.Prelude.{Ok, ◌∷◌, ◌++◌, ◌≡◌, ◌≤◌, min, length, get_or};
 ghost use Rattle.laws.specs.Row.{row};
+ghost use Rattle.refusals.specs.Refusals.{giving};
 ghost use Rattle.requests.specs.Requests.{request_of};
 ghost use Rattle.numbers.specs.Numbers.{be16, Wrote};
 ghost use Rattle.replies.specs.Replies.{word16, words, sealed, Filled};
-ghost use Rattle.answers.specs.Answers.{body_of, taken_reply, accepted_reply, refused_reply, reply_by, asked_outcome, asked_settings, Answers};
+ghost use Rattle.answers.specs.Answers.{body_of, taken_reply, accepted_reply, refused_reply, asked_outcome, asked_settings, taking, Answers};
 ghost use Rattle.answers.specs.Making.{count_of, word_of, reply_of};
 
 use crate::registers::{WORDS, block, listed};
 use hire::Hire;
 pub use length::length_in;
 use pack::Pack;
-use refusals::{Left, Outcome, Refusal};
+use refusals::Refusal;
 pub use registers::register;
 use requests::{Query, Request};
-use settings::{Settings, Written};
+use settings::Settings;
 use writes::Form;
 
-// A register's value; a number outside the three ranges has none.
+// What an accepted request asks, and the settings that then stand.
 #[derive(Clone, Copy)]
-pub enum Shown {
-    Register(u16),
-    Nothing,
-}
-
-// What a request asks, what it comes to, and the settings that then stand.
-#[derive(Clone, Copy)]
-pub struct Told {
+pub struct Taken {
     pub asked: Request,
-    pub outcome: Outcome,
     pub settings: Settings,
 }
 
-// The reply to a request, of any bytes.
-pub fn answer(pack: Pack, hire: Hire, request: &[u8], reply: &mut [u8]) -> Told
+// The reply to a request, of any bytes; and what is taken of it.
+pub fn answer(pack: Pack, hire: Hire, request: &[u8], reply: &mut [u8]) -> Result<Taken, Refusal>
     ensures { Answers pack hire request.now reply.old result reply.new }
 {
-    let asked = requests::parsed(request);
-    let decided = decide(pack, request, asked);
-    let outcome = decided.outcome;
-    let settings = decided.settings;
-    put_reply(pack, hire, request, asked, outcome, reply);
-    Told {
-        asked,
-        outcome,
-        settings,
+    let decided = decide(pack, request);
+    match decided {
+        Ok(taken) => put_accepted(pack, hire, request, taken.asked, reply),
+        Err(refusal) => put_refusal(refusal, request, reply),
     }
+    decided
 }
 
-// What it comes to, and the settings that then stand: a write goes through their one judgement.
-fn decide(pack: Pack, request: &[u8], asked: Request) -> Written
-    ensures { result ≡ record { outcome = asked_outcome pack request.now asked; settings = asked_settings pack request.now asked } }
+// What is taken of the request, or why it is refused.
+fn decide(pack: Pack, request: &[u8]) -> Result<Taken, Refusal>
+    ensures { result ≡ taking pack request.now (request_of request.now) }
 {
-    let settings = pack.settings;
+    let asked = requests::parsed(request)?;
+    let settings = settings_after(pack, request, asked)?;
+    Ok(Taken { asked, settings })
+}
+
+// A write goes through the settings' one judgement; after any other request they stay.
+#[tactic(auto, unfolding(crate::specs::Answers::asked_outcome, crate::specs::Answers::asked_settings))]
+fn settings_after(pack: Pack, request: &[u8], asked: Request) -> Result<Settings, Refusal>
+    ensures { result ≡ giving (asked_outcome pack request.now (Ok asked)) (asked_settings pack request.now (Ok asked)) }
+{
     match asked {
-        Request::Refused(refusal) => stays(settings, Outcome::Refused(refusal)),
-        Request::ClearEvents => stays(settings, Outcome::Done),
-        Request::ClearStatistics => stays(settings, Outcome::Done),
-        Request::Write { form, count } => writes::written(settings, request, form, count),
-        Request::Read(_) => stays(settings, Outcome::Done),
-    }
-}
-
-// Not a write: they stay.
-fn stays(settings: Settings, outcome: Outcome) -> Written
-    ensures { result ≡ record { outcome = outcome; settings = settings } }
-{
-    Written { outcome, settings }
-}
-
-// The reply to what those bytes ask, by what it comes to.
-fn put_reply(
-    pack: Pack,
-    hire: Hire,
-    request: &[u8],
-    asked: Request,
-    outcome: Outcome,
-    reply: &mut [u8],
-)
-    requires { asked ≡ request_of request.now }
-    ensures { Filled reply.old (reply_by outcome request.now (accepted_reply pack hire request.now asked)) reply.new }
-{
-    match outcome {
-        Outcome::Done => put_accepted(pack, hire, request, asked, reply),
-        Outcome::Refused(refusal) => put_refusal(refusal, request, reply),
+        Request::Write { form, count } => writes::written(pack.settings, request, form, count),
+        Request::ClearEvents | Request::ClearStatistics | Request::Read(_) => Ok(pack.settings),
     }
 }
 
@@ -96,20 +66,19 @@ fn put_reply(
 fn put_refusal(refusal: Refusal, request: &[u8], reply: &mut [u8])
     ensures { Filled reply.old (refused_reply refusal request.now) reply.new }
 {
-    let left = refusal.leaves();
-    match left {
-        Left::Zeros => replies::zero_from(reply, 0),
-        Left::Nack(error) => replies::nack(reply, numbers::byte_at(request, 1), error),
+    match refusal.leaves() {
+        None => replies::zero_from(reply, 0),
+        Some(error) => replies::nack(reply, numbers::byte_at(request, 1), error),
     }
 }
 
 // The reply to what is accepted.
+#[tactic(auto, unfolding(crate::specs::Answers::accepted_reply))]
 fn put_accepted(pack: Pack, hire: Hire, request: &[u8], asked: Request, reply: &mut [u8])
-    requires { asked ≡ request_of request.now }
-    ensures { Filled reply.old (accepted_reply pack hire request.now asked) reply.new }
+    requires { Ok asked ≡ request_of request.now }
+    ensures { Filled reply.old (accepted_reply pack hire request.now (Ok asked)) reply.new }
 {
     match asked {
-        Request::Refused(_) => replies::zero_from(reply, 0),
         Request::ClearEvents => replies::ack(reply, 0x02),
         Request::ClearStatistics => replies::ack(reply, 0x02),
         Request::Write { form, count } => put_taken(request, form, count, reply),
@@ -118,6 +87,7 @@ fn put_accepted(pack: Pack, hire: Hire, request: &[u8], asked: Request, reply: &
 }
 
 // Address and RL of 0x10, or an ACK.
+#[tactic(auto, unfolding(crate::specs::Answers::taken_reply))]
 fn put_taken(request: &[u8], form: Form, count: u8, reply: &mut [u8])
     ensures { Filled reply.old (sealed (taken_reply form request.now count)) reply.new }
 {
@@ -139,24 +109,18 @@ fn put_address(address: u16, count: u8, reply: &mut [u8])
 
 // A query is answered by its words; no request asks for more than 127.
 fn read(pack: Pack, hire: Hire, request: &[u8], query: Query, reply: &mut [u8])
-    requires { request_of request.now ≡ Request.Read query }
+    requires { request_of request.now ≡ Ok (Request.Read query) }
     ensures { Filled reply.old (sealed (body_of pack hire request.now query)) reply.new }
 {
     let events = hire.events;
-    let cells = at_most_16(pack.cells);
+    // A board has 16 cells at most.
+    let cells = pack.cells.min(16);
     let count = query.word_count(events.new_count(), events.kept_count(), cells);
     send(pack, hire, request, query, count, reply);
 }
 
-// As many cells as a board can have.
-fn at_most_16(cells: u8) -> u8
-    ensures { result ≡ min 16 cells }
-{
-    if cells < 16 { cells } else { 16 }
-}
-
 fn send(pack: Pack, hire: Hire, request: &[u8], query: Query, count: u16, reply: &mut [u8])
-    requires { (request_of request.now ≡ Request.Read query) × ((count ≡ count_of pack hire query) × (count ≤ 127)) }
+    requires { (request_of request.now ≡ Ok (Request.Read query)) × ((count ≡ count_of pack hire query) × (count ≤ 127)) }
     ensures { Filled reply.old (sealed (reply_of pack hire request.now query count)) reply.new }
 {
     let words = words_of(pack, hire, request, query, count as u8);
@@ -170,21 +134,14 @@ fn put_words(given: &[u16], high_first: bool, from: usize, count: u16, reply: &m
     requires { (from ≤ 3) × ((count ≤ 127) × (127 ≤ length given.now)) }
     ensures { Wrote reply.old from (words (word16 high_first) (λ i. get_or given.now i 0) 0 count) reply.new }
 {
-    let mut i: u16 = 0;
-    while i < count {
-        replies::put_word(
-            reply,
-            from + 2 * (i as usize),
-            high_first,
-            given[i as usize],
-        );
-        i += 1;
+    for (i, word) in given[..count as usize].iter().enumerate() {
+        replies::put_word(reply, from + 2 * i, high_first, *word);
     }
 }
 
 // All words of a reply at once: a word by itself would be handed the whole hire.
 fn words_of(pack: Pack, hire: Hire, request: &[u8], query: Query, count: u8) -> [u16; WORDS]
-    requires { (request_of request.now ≡ Request.Read query) × ((count ≡ count_of pack hire query) × (count ≤ 127)) }
+    requires { (request_of request.now ≡ Ok (Request.Read query)) × ((count ≡ count_of pack hire query) × (count ≤ 127)) }
     ensures { result ≡ row 127 (word_of pack hire request.now query) count }
 {
     let lifetime = pack.clock.seconds;

@@ -5,21 +5,21 @@ ghost use Rattle.requests.specs.Requests.{in_one_range};
 ghost use Rattle.answers.specs.Registers.{in_readings, in_statistics, in_settings, shown_at, value_at};
 ghost use Rattle.answers.specs.Making.{listed_by, listed_word, looked_up};
 
-use crate::Shown;
 use hire::Hire;
 use pack::Pack;
 
 // No reply has more words.
 pub(crate) const WORDS: usize = 127;
 
-pub fn register(pack: Pack, hire: Hire, at: u16) -> Shown
+// A register's value; a number outside the three ranges has none.
+pub fn register(pack: Pack, hire: Hire, at: u16) -> Option<u16>
     ensures { result ≡ shown_at pack hire at }
 {
     if is_shown(at) {
         let words = block(pack, hire, at, 1);
-        return Shown::Register(words[0]);
+        return Some(words[0]);
     }
-    Shown::Nothing
+    None
 }
 
 // So many registers of one range, as the words of a reply.
@@ -48,10 +48,8 @@ pub(crate) fn listed(pack: Pack, hire: Hire, request: &[u8], count: u8) -> [u16;
     let statistics = hire.statistics.registers(per_km, 0, 18);
     let settings = pack.settings.registers(0, 100);
     let mut words = [0; WORDS];
-    let mut i: u16 = 0;
-    while i < (count as u16) {
+    for i in 0..count as u16 {
         words[i as usize] = listed_word(request, &readings, &statistics, &settings, i);
-        i += 1;
     }
     words
 }
@@ -75,6 +73,7 @@ fn listed_word(
 }
 
 // A register of the three ranges, and 0 where there is none.
+#[tactic(auto, unfolding(crate::specs::Making::looked_up))]
 fn looked_up(readings: &[u16], statistics: &[u16], settings: &[u16], at: u16) -> u16
     requires { (127 ≤ length readings.now) × ((127 ≤ length statistics.now) × (127 ≤ length settings.now)) }
     ensures { result ≡ looked_up readings.now statistics.now settings.now at }

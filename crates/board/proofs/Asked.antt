@@ -9,20 +9,16 @@ use borrow.Author.Tests.{ltb-false}
 use lib.Dec.{eqb, ltb}
 use lib.ListN.{length, drop, replicate, length-append, length-replicate}
 use lib.Seq.{drop-append_seam}
-use Rattle.refusals.specs.declared.Left.{Left}
-use Rattle.refusals.specs.declared.Left.TheVariants.{Zeros}
+use Rattle.std.specs.Prelude.{Option, None, Ok, Err, is_ok}
 use Rattle.refusals.specs.declared.Refusal.{Refusal}
 use Rattle.refusals.specs.declared.Refusal.TheVariants.{Damaged, UnknownCommand, WrongLength, WrongField}
 use Rattle.refusals.specs.declared.Refusal.TheVariants.{OutOfRange, OutOfOrder}
-use Rattle.refusals.specs.declared.Outcome.{Outcome}
-use Rattle.refusals.specs.declared.Outcome.TheVariants.{Done, Refused}
-use Rattle.refusals.specs.Refusals.{refusal_number, left_by, number_of, is_done, first}
+use Rattle.refusals.specs.Refusals.{Outcome, Done, Refused, refusal_number, left_by, number_of, is_done, first}
 use Rattle.refusals.proofs.Rows.{refused_not, and_then, first_append}
 use Rattle.settings.specs.Settings as settings
-use Rattle.requests.specs.declared.Request.{Request}
 use Rattle.requests.specs.declared.Request.TheVariants as request
-use Rattle.requests.specs.Requests.{foreign, damaged, unknown_command, wrong_length, wrong_field, request_rows, request_of}
-use Rattle.requests.proofs.Outcomes.{is_refused, accepted, refused, not_refused}
+use Rattle.requests.specs.Requests.{foreign, damaged, unknown_command, wrong_length, wrong_field, request_rows, request_of, Asked}
+use Rattle.requests.proofs.Outcomes.{accepted, refused, accepted_asks}
 use Rattle.replies.specs.Replies.{padded, Filled}
 use Rattle.replies.proofs.Writing.{whole}
 use Rattle.pack.specs.declared.Pack.{Pack}
@@ -36,13 +32,13 @@ use Rattle.board.proofs.Shape as shapes
 
 -- ---- a request comes to the first of its rows that applies
 
-asked_rows_lem : (p : Pack) (s : List ℕ) (q : Request) → asked_outcome p s q ≡ first (asked_rows p s q)
+asked_rows_lem : (p : Pack) (s : List ℕ) (q : Asked) → asked_outcome p s q ≡ first (asked_rows p s q)
 unfolding asked_outcome first settings.judged_of
-asked_rows_lem p s (request.Refused refusal) = refl
-asked_rows_lem p s request.ClearEvents = refl
-asked_rows_lem p s request.ClearStatistics = refl
-asked_rows_lem p s (request.Write f n) = refl
-asked_rows_lem p s (request.Read q) = refl
+asked_rows_lem p s (Err refusal) = refl
+asked_rows_lem p s (Ok request.ClearEvents) = refl
+asked_rows_lem p s (Ok request.ClearStatistics) = refl
+asked_rows_lem p s (Ok (request.Write f n)) = refl
+asked_rows_lem p s (Ok (request.Read q)) = refl
 
 pub by_table : (b : Board) (s : List ℕ) → request_outcome b s ≡ first (frame_rows b s)
 unfolding first
@@ -50,12 +46,12 @@ by_table b s =
     asked_rows_lem b.pack s (request_of s) ∙ go (first (request_rows s)) refl
     ∙ sym (first_append (request_rows s) (asked_rows b.pack s (request_of s)))
   where
-    rest : Request → Outcome
+    rest : Asked → Outcome
     rest q = first (asked_rows b.pack s q)
 
     go : (o : Outcome) → first (request_rows s) ≡ o → rest (request_of s) ≡ and_then o (rest (request_of s))
-    go Done e = refl
-    go (Refused refusal) e = ap rest (refused s refusal e)
+    go (Ok done) e = refl
+    go (Err refusal) e = ap rest (refused s refusal e)
 
 -- what holds of each refusal in a list of rows holds of the first that applies
 abbrev Each : (Outcome → Type 0) → List (Refusal × Bool) → Type 0
@@ -69,13 +65,12 @@ first_each P ((refusal, true) ∷ rest) each done = each.0
 first_each P ((refusal, false) ∷ rest) each done = first_each P rest each.1 done
 
 asked_each : (P : Outcome → Type 0) → ((register : ℕ) → P (Refused (OutOfRange register))) → P (Refused OutOfOrder)
-    → (p : Pack) (s : List ℕ) (q : Request) → is_refused q ≡ false → Each P (asked_rows p s q)
-unfolding is_refused
-asked_each P range order p s (request.Refused refusal) e = absurd (false≢true (sym e))
-asked_each P range order p s request.ClearEvents e = tt
-asked_each P range order p s request.ClearStatistics e = tt
-asked_each P range order p s (request.Write form n) e = (range _, (order, tt))
-asked_each P range order p s (request.Read q) e = tt
+    → (p : Pack) (s : List ℕ) (q : Asked) → is_ok q ≡ true → Each P (asked_rows p s q)
+asked_each P range order p s (Err refusal) e = absurd (false≢true e)
+asked_each P range order p s (Ok request.ClearEvents) e = tt
+asked_each P range order p s (Ok request.ClearStatistics) e = tt
+asked_each P range order p s (Ok (request.Write form n)) e = (range _, (order, tt))
+asked_each P range order p s (Ok (request.Read q)) e = tt
 
 -- a refusal of the frame itself, whichever it is, lets a held frame go
 abbrev Lost : Outcome → Type 0
@@ -85,7 +80,7 @@ pub request_lost : (b : Board) (s : List ℕ) → (request_outcome b s ≡ Done 
 request_lost b s h =
     ap lost by ∙ go (first (request_rows s)) refl (λ e. h (by ∙ e))
   where
-    rest : Request → List (Refusal × Bool)
+    rest : Asked → List (Refusal × Bool)
     rest q = asked_rows b.pack s q
 
     by : request_outcome b s ≡ and_then (first (request_rows s)) (first (rest (request_of s)))
@@ -93,12 +88,12 @@ request_lost b s h =
 
     go : (o : Outcome) → first (request_rows s) ≡ o → (and_then o (first (rest (request_of s))) ≡ Done → ⊥)
         → lost (and_then o (first (rest (request_of s)))) ≡ true
-    go Done e h =
+    go (Ok done) e h =
         first_each Lost (rest (request_of s))
         (asked_each Lost (λ register. refl) refl b.pack s (request_of s)
-        (ap is_refused (accepted s e) ∙ not_refused s e))
+        (accepted_asks s e))
         (λ z. absurd (h z))
-    go (Refused refusal) e h =
+    go (Err refusal) e h =
         ap lost (sym e) ∙ first_each Lost (request_rows s) (refl, (refl, (refl, (refl, (refl, tt)))))
         (λ z. absurd (refused_not refusal (sym e ∙ z)))
 
@@ -118,16 +113,16 @@ pub not_foreign : (b : Board) (s : List ℕ) → foreign s ≡ false → eqb (nu
 not_foreign b s ours =
     ap (λ (o : Outcome). eqb (number_of o) 2) (first_append (request_rows s) (rest (request_of s))) ∙ go (first (request_rows s)) refl
   where
-    rest : Request → List (Refusal × Bool)
+    rest : Asked → List (Refusal × Bool)
     rest q = asked_rows b.pack s q
 
     go : (o : Outcome) → first (request_rows s) ≡ o → Not2 (and_then o (first (rest (request_of s))))
-    go Done e =
+    go (Ok done) e =
         first_each Not2 (rest (request_of s))
         (asked_each Not2 (λ register. refl) refl b.pack s (request_of s)
-        (ap is_refused (accepted s e) ∙ not_refused s e))
+        (accepted_asks s e))
         (λ z. refl)
-    go (Refused refusal) e = ap (λ (o : Outcome). eqb (number_of o) 2) (sym e) ∙ bytes s ours
+    go (Err refusal) e = ap (λ (o : Outcome). eqb (number_of o) 2) (sym e) ∙ bytes s ours
 
 -- ---- what is left of the buffer
 
@@ -137,25 +132,25 @@ no_bytes_lem room = ap (λ n. replicate n 0) (sub-zero room)
 
 -- a refusal that leaves zeros, and no held frame go
 abbrev pub Blank : Outcome → Type 0
-Blank Done = ⊥
-Blank (Refused refusal) = (left_by refusal ≡ Zeros) × (eqb (refusal_number refusal) 2 ≡ false)
+Blank (Ok done) = ⊥
+Blank (Err refusal) = (left_by refusal ≡ None) × (eqb (refusal_number refusal) 2 ≡ false)
 
 pub blank_reply : (o : Outcome) (s reply : List ℕ) → Blank o → reply_by o s reply ≡ []
 unfolding reply_by
-blank_reply Done s reply k = absurd k
-blank_reply (Refused refusal) s reply k = ap (λ (l : Left). left_reply l s) k.0
+blank_reply (Ok done) s reply k = absurd k
+blank_reply (Err refusal) s reply k = ap (λ (l : Option ℕ). left_reply l s) k.0
 
 blank_kept : (o : Outcome) → Blank o → lost o ≡ false
-blank_kept Done k = absurd k
-blank_kept (Refused refusal) k = rw (k.1, k.0) refl
+blank_kept (Ok done) k = absurd k
+blank_kept (Err refusal) k = rw (k.1, k.0) refl
 
 blank_first : (o p : Outcome) → Blank o → and_then o p ≡ o
-blank_first Done p k = absurd k
-blank_first (Refused refusal) p k = refl
+blank_first (Ok done) p k = absurd k
+blank_first (Err refusal) p k = refl
 
 blank_not : (o : Outcome) → Blank o → o ≡ Done → ⊥
-blank_not Done k e = k
-blank_not (Refused refusal) k e = refused_not refusal e
+blank_not (Ok done) k e = k
+blank_not (Err refusal) k e = refused_not refusal e
 
 pub room_blank : (b : Board) (room : ℕ) → is_done (first (room_rows b room)) ≡ false → Blank (first (room_rows b room))
 room_blank b room off = first_each Blank (room_rows b room) ((refl, refl), ((refl, refl), tt)) (λ e. false≢true (sym off ∙ ap is_done e))

@@ -1,23 +1,22 @@
 -- Every call but an offer and a fetch neither looks at what is held of the raw line nor touches it (a handover drops it): so calls that are
 -- none of the line's are answered alike, whatever is held; and an offer changes nothing else, so once what was heard is let go no offer
 -- shows. Assumes nothing.
+use Rattle.std.specs.Prelude.{Err, Ok}
 use mathlib.Core.Path.{◌≡◌, refl, sym, ap, ◌∙◌}
 use mathlib.Core.Bool.{Bool, true, false, not, cond, false≢true}
 use mathlib.Core.List.{List, [], ◌∷◌}
 use Prim.Native.Nat.{ℕ}
 use Rattle.refusals.specs.declared.Refusal.{Refusal}
 use Rattle.refusals.specs.declared.Refusal.TheVariants.{NoBoard}
-use Rattle.refusals.specs.declared.Outcome.{Outcome}
-use Rattle.refusals.specs.Refusals.{is_done, first}
+use Rattle.refusals.specs.Refusals.{Outcome, is_done, first}
 use Rattle.hire.specs.Hire.{new_hire}
 use Rattle.hire.specs.Registers.{reading_register}
 use Rattle.receiver.specs.declared.Receiver.{Receiver}
 use Rattle.receiver.specs.Receiver.{no_bytes}
 use Rattle.requests.specs.declared.Query.{Query}
 use Rattle.requests.specs.declared.Query.TheVariants.{Registers, Listed, Bare, NewEvents, AllEvents, Temperatures, Cells, SettingsOf}
-use Rattle.requests.specs.declared.Request.{Request}
 use Rattle.requests.specs.declared.Request.TheVariants as request
-use Rattle.requests.specs.Requests.{request_of}
+use Rattle.requests.specs.Requests.{request_of, Asked}
 use Rattle.replies.specs.Replies.{sealed}
 use Rattle.answers.specs.Registers.{shown_at, value_at}
 use Rattle.answers.specs.Answers.{body_by, body_of, accepted_reply}
@@ -48,22 +47,22 @@ module _ (b : Board) (r : Receiver) where
   bodies s Cells = refl
   bodies s (SettingsOf kind n) = refl
 
-  pub request_reply : (s : List ℕ) (q : Request)
+  pub request_reply : (s : List ℕ) (q : Asked)
       → accepted_reply b.pack (with_receiver b r).hire s q ≡ accepted_reply b.pack b.hire s q
   unfolding accepted_reply
-  request_reply s (request.Refused refusal) = refl
-  request_reply s request.ClearEvents = refl
-  request_reply s request.ClearStatistics = refl
-  request_reply s (request.Write f n) = refl
-  request_reply s (request.Read q) = ap sealed (bodies s q)
+  request_reply s (Err refusal) = refl
+  request_reply s (Ok request.ClearEvents) = refl
+  request_reply s (Ok request.ClearStatistics) = refl
+  request_reply s (Ok (request.Write f n)) = refl
+  request_reply s (Ok (request.Read q)) = ap sealed (bodies s q)
 
-  pub request_changes : (s : List ℕ) (q : Request) → changed_by (with_receiver b r) s q ≡ with_receiver (changed_by b s q) r
+  pub request_changes : (s : List ℕ) (q : Asked) → changed_by (with_receiver b r) s q ≡ with_receiver (changed_by b s q) r
   unfolding changed_by
-  request_changes s (request.Refused refusal) = refl
-  request_changes s request.ClearEvents = refl
-  request_changes s request.ClearStatistics = refl
-  request_changes s (request.Write f n) = refl
-  request_changes s (request.Read q) = refl
+  request_changes s (Err refusal) = refl
+  request_changes s (Ok request.ClearEvents) = refl
+  request_changes s (Ok request.ClearStatistics) = refl
+  request_changes s (Ok (request.Write f n)) = refl
+  request_changes s (Ok (request.Read q)) = refl
 
   -- ---- any call that is none of the line's: its shape is the same, but for what is held of the board after it
 

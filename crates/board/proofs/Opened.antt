@@ -18,7 +18,8 @@ use Rattle.signed.specs.Signed as signed
 use Rattle.statistics.specs.Statistics as statistics
 use Rattle.hire.specs.Hire.{new_hire}
 use Rattle.board.specs.Start.{start_board}
-use Rattle.hire.specs.Tick.{readings_of, speed_and_distance_of, events_of, recorded_all, record_of, status_for, status_of, balancing_of, statistics_of}
+use Rattle.hire.specs.Tick.{readings_of, speed_and_distance_of, events_of, recorded_all, record_of, status_for, status_of, balancing_of}
+use Rattle.hire.specs.Tick.{statistics_of}
 use Rattle.hire.specs.Tick.{switches_of}
 use Rattle.pack.specs.Pack.{new_pack, start_outcome, later_of, time_of, conditions_of}
 use Rattle.board.specs.Tick.{readings_kept, time_passed, ridden, guarded, recorded, status_set, balanced, counted, switched, sensed}
@@ -30,7 +31,8 @@ use Rattle.refusals.specs.Refusals.{first}
 use Rattle.board.specs.Handover.{handed_over}
 use Rattle.replies.specs.Replies.{words, sealed, padded}
 use Rattle.writes.specs.Writes.{pair_at, pairs_of, count_of, well_counted, all_settings, write_command, drafted_of}
-use Rattle.requests.specs.Requests.{expected_of, length_of, address_at, all_shown, kind_of, fields_of, request_of, command_of, has_length, marks}
+use Rattle.requests.specs.Requests.{expected_of, length_of, address_at, all_shown, kind_of, fields_of, request_of, command_of, has_length}
+use Rattle.requests.specs.Requests.{marks}
 use Rattle.board.specs.Changes.{changed_by, asked_deeds}
 use Rattle.receiver.specs.Receiver.{is_held, with_byte, offered_of}
 use Rattle.board.specs.Calls.{shape, outcome_of, board_by, seen_of, left_of}

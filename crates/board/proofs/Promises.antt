@@ -1,18 +1,17 @@
 -- Each public call's promise determines its number, the state and every byte lent to it, refusals too: any two results allowed by it
 -- are equal. And what it determines is the behaviour's step. The promises are those that the functions cite, by their names.
 -- Assumes nothing.
+use Rattle.std.specs.Prelude.{Option}
 use mathlib.Core.Path.{◌≡◌, refl, sym, ◌∙◌}
 use mathlib.Core.Bool.{Bool, true, false, cond}
 use mathlib.Core.List.{List, []}
 use Prim.Native.Nat.{ℕ}
-use Rattle.refusals.specs.declared.Outcome.{Outcome}
-use Rattle.refusals.specs.Refusals.{is_done}
+use Rattle.refusals.specs.Refusals.{Outcome, is_done}
 use Rattle.events.specs.declared.Event.{Event}
 use Rattle.board.specs.declared.Board.{Board}
 use Rattle.board.specs.declared.Answer.{Answer}
 use Rattle.board.specs.declared.Heard.{Heard}
 use Rattle.board.specs.declared.Stored.{Stored}
-use Rattle.answers.specs.declared.Shown.{Shown}
 use Rattle.board.specs.Promises.{Starts, Answers, Leaves, Offers, Stores, ShowsRegister, ShowsCharge, ShowsDischarge, ShowsDecision}
 use Rattle.board.specs.Promises.{ShowsBalancing, ShowsLifetime, CountsKept, ShowsKept, CountsNew, ShowsNew}
 use Rattle.board.specs.Calls.{Call, offer, keep, Lent, nothing_lent, reply_lent, area_lent, Seen, seen, shape, seen_of, left_of, outcome_in}
@@ -40,7 +39,7 @@ pub record Promises : Type 0 where
   pub offered : (b : Board) (bytes : List ℕ) → Determines Heard (Offers b bytes)
   pub stored : (b : Board) (store : List ℕ) (r r' : Stored) (after after' : List ℕ)
       → Stores b store r after → Stores b store r' after' → (r ≡ r') × (after ≡ after')
-  pub register : (b : Board) (at : ℕ) → Determines Shown (ShowsRegister b at)
+  pub register : (b : Board) (at : ℕ) → Determines (Option ℕ) (ShowsRegister b at)
   pub charge : (b : Board) → Determines Bool (ShowsCharge b)
   pub discharge : (b : Board) → Determines Bool (ShowsDischarge b)
   pub decision : (b : Board) → Determines ℕ (ShowsDecision b)

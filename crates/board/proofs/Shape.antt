@@ -4,9 +4,7 @@ use mathlib.Core.Bool.{Bool, true, false, not, cond, and-false, false≢true}
 use mathlib.Core.List.{List}
 use Prim.Native.Nat.{ℕ}
 use Rattle.refusals.specs.declared.Refusal.TheVariants.{NoBoard}
-use Rattle.refusals.specs.declared.Outcome.{Outcome}
-use Rattle.refusals.specs.declared.Outcome.TheVariants.{Done, Refused}
-use Rattle.refusals.specs.Refusals.{is_done, first}
+use Rattle.refusals.specs.Refusals.{Outcome, Done, Refused, is_done, first}
 use Rattle.refusals.proofs.Rows.{not_done, off}
 use Rattle.pack.specs.declared.Pack.{Pack}
 use Rattle.pack.specs.Pack as pack
@@ -16,11 +14,7 @@ use Rattle.board.specs.State.{usable}
 use Rattle.board.specs.Calls.{Call, Shape, area_lent, shape, outcome_of, lets_go, board_by, left_of, outcome_in, answer_to}
 use Rattle.board.specs.Promises.{Leaves, left_in}
 
--- a test that is not met, and one that is
-pub not_true_false : (t : Bool) → not t ≡ true → t ≡ false
-not_true_false true e = sym e
-not_true_false false e = refl
-
+-- a test that is met
 pub not_false_true : (t : Bool) → not t ≡ false → t ≡ true
 not_false_true true e = refl
 not_false_true false e = sym e
@@ -42,25 +36,23 @@ module _ (b : Board) (s : Shape) where
   is_done_lem e = let (u, z) = off NoBoard (not (usable b)) (s.rows b) e in (not_false_true (usable b) u, z)
 
 -- so what a pack's first row says is decided alike
-pub no_board : (p : Pack) {o : Outcome} {t : Bool} → o ≡ pack.start_outcome p → t ≡ is_done o → not t ≡ true
-    → (pack.usable p ≡ false) × (o ≡ Refused NoBoard)
+pub no_board : (p : Pack) {o : Outcome} → o ≡ pack.start_outcome p → is_done o ≡ false → (pack.usable p ≡ false) × (o ≡ Refused NoBoard)
 unfolding pack.start_outcome first
-no_board p {o} e f g = go (pack.usable p) (sym (ap is_done e) ∙ sym f) e g
+no_board p {o} e z = go (pack.usable p) e (sym (ap is_done e) ∙ z)
   where
-    go : {o : Outcome} {t : Bool} (u : Bool) → is_done (cond (not u) (Refused NoBoard) Done) ≡ t → o ≡ cond (not u) (Refused NoBoard) Done
-        → not t ≡ true → (u ≡ false) × (o ≡ Refused NoBoard)
-    go true d e g = let z : false ≡ true = ap not d ∙ g in absurd (false≢true z)
-    go false d e g = (refl, e)
+    go : (u : Bool) → o ≡ cond (not u) (Refused NoBoard) Done → is_done (cond (not u) (Refused NoBoard) Done) ≡ false
+        → (u ≡ false) × (o ≡ Refused NoBoard)
+    go true e z = absurd (false≢true (sym z))
+    go false e z = (refl, e)
 
-pub some_board : (p : Pack) {o : Outcome} {t : Bool} → o ≡ pack.start_outcome p → t ≡ is_done o → not t ≡ false
-    → (pack.usable p ≡ true) × (o ≡ Done)
+pub some_board : (p : Pack) {o : Outcome} → o ≡ pack.start_outcome p → is_done o ≡ true → (pack.usable p ≡ true) × (o ≡ Done)
 unfolding pack.start_outcome first
-some_board p {o} e f g = go (pack.usable p) (sym (ap is_done e) ∙ sym f) e g
+some_board p {o} e z = go (pack.usable p) e (sym (ap is_done e) ∙ z)
   where
-    go : {o : Outcome} {t : Bool} (u : Bool) → is_done (cond (not u) (Refused NoBoard) Done) ≡ t → o ≡ cond (not u) (Refused NoBoard) Done
-        → not t ≡ false → (u ≡ true) × (o ≡ Done)
-    go true d e g = (refl, e)
-    go false d e g = let z : true ≡ false = ap not d ∙ g in absurd (false≢true (sym z))
+    go : (u : Bool) → o ≡ cond (not u) (Refused NoBoard) Done → is_done (cond (not u) (Refused NoBoard) Done) ≡ true
+        → (u ≡ true) × (o ≡ Done)
+    go true e z = (refl, e)
+    go false e z = absurd (false≢true z)
 
 -- ---- the board after a call
 

@@ -7,8 +7,7 @@ pub mod Recorded
 pub mod SinceTheClear
 pub mod OffTheLine
 use Rattle.std.specs.Prelude.{Bool, cond, List, [], ◌∷◌, ◌++◌, ℕ}
-use Rattle.refusals.specs.declared.Outcome.{Outcome}
-use Rattle.refusals.specs.Refusals.{is_done}
+use Rattle.refusals.specs.Refusals.{Outcome, is_done}
 use Rattle.receiver.specs.Heard.{after_hearing}
 use Rattle.board.specs.declared.Board.{Board}
 pub use Rattle.board.specs.Deeds.{Deed, took, wrote, cleared, forgot, sent, handed, heard, fetched, loaded}

@@ -1,7 +1,7 @@
 -- Any machine that is started and called as the board is.
 -- Assumes nothing.
 use Rattle.std.specs.Prelude.{List, [], ◌∷◌, ℕ}
-use Rattle.refusals.specs.declared.Outcome.{Outcome}
+use Rattle.refusals.specs.Refusals.{Outcome}
 use Rattle.board.specs.declared.Board.{Board}
 use Rattle.board.specs.Start.{start_board, start_of}
 use Rattle.board.specs.Calls.{Call, Seen, step}

@@ -1,14 +1,11 @@
 -- The board as it is called. Each call has one shape: the rows of its refusals, the board after it where none applies, what it leaves in
 -- what was lent, and what it adds to the history. A call is made of its shape, once for all: it comes to the first row that applies; the
 -- board is that of a call that is done, or as it was. Assumes nothing.
-use Rattle.std.specs.Prelude.{Bool, true, false, ◌&&◌, ◌||◌, not, cond, List, [], ◌∷◌, ◌++◌, ℕ, eqb, ltb, length, take}
-use Rattle.refusals.specs.declared.Left.{Left}
-use Rattle.refusals.specs.declared.Left.TheVariants.{Zeros, Nack}
+use Rattle.std.specs.Prelude.{Bool, true, false, ◌&&◌, ◌||◌, not, cond, List, [], ◌∷◌, ◌++◌, ℕ, eqb, ltb, length, take, Option, None, Some}
+use Rattle.std.specs.Prelude.{Ok, Err}
 use Rattle.refusals.specs.declared.Refusal.{Refusal}
 use Rattle.refusals.specs.declared.Refusal.TheVariants.{NoRoom, FrameHeld, NoFrameHeld, NoBoard}
-use Rattle.refusals.specs.declared.Outcome.{Outcome}
-use Rattle.refusals.specs.declared.Outcome.TheVariants.{Done, Refused}
-use Rattle.refusals.specs.Refusals.{refusal_number, left_by, is_done, first}
+use Rattle.refusals.specs.Refusals.{Outcome, Done, Refused, refusal_number, left_by, is_done, first}
 use Rattle.events.specs.Area.{save_rows, load_rows, area_of, events_in, list_of}
 use Rattle.cabinet.specs.Cabinet.{cabinet_rows, filled_of}
 use Rattle.classes.specs.Store.{editions_in, keep_rows, kept_store, recall_rows, pairs_for}
@@ -149,19 +146,19 @@ unfoldable pub outcome_of : Board → Shape → Outcome
 outcome_of b c = first ((NoBoard, not (usable b)) ∷ c.rows b)
 
 -- those that are answered with a NACK
-abbrev pub is_nack : Left → Bool
-is_nack Zeros = false
-is_nack (Nack error) = true
+abbrev pub is_nack : Option ℕ → Bool
+is_nack None = false
+is_nack (Some error) = true
 
 abbrev pub nacks : Outcome → Bool
-nacks Done = false
-nacks (Refused refusal) = is_nack (left_by refusal)
+nacks (Ok done) = false
+nacks (Err refusal) = is_nack (left_by refusal)
 
 -- document 02, W-201: "a fetch that answers with a NACK lets the held frame go and changes no other state, which amends demand 1 and 01's
 -- table". (2 is here for boards that no start reaches: a held frame is the board's own)
 abbrev pub lost : Outcome → Bool
-lost Done = false
-lost (Refused refusal) = eqb (refusal_number refusal) 2 || is_nack (left_by refusal)
+lost (Ok done) = false
+lost (Err refusal) = eqb (refusal_number refusal) 2 || is_nack (left_by refusal)
 
 abbrev pub lets_go : Shape → Outcome → Bool
 lets_go c outcome = lost outcome && c.fetches

@@ -3,8 +3,7 @@
 use Rattle.std.specs.Prelude.{Bool, true, false, cond, ◌⊎◌, List, [], ◌∷◌, reverse, ◌≡◌, ℕ, ◌-◌, ◌≤◌, length, take, drop, replicate}
 use Rattle.refusals.specs.declared.Refusal.{Refusal}
 use Rattle.refusals.specs.declared.Refusal.TheVariants.{NoFrameHeld, NoBoard}
-use Rattle.refusals.specs.declared.Outcome.TheVariants.{Done, Refused}
-use Rattle.refusals.specs.Refusals.{is_done}
+use Rattle.refusals.specs.Refusals.{Done, Refused, is_done}
 use Rattle.desk.specs.Desk.{record_length}
 use Rattle.guard.specs.Quiet.{all_quiet}
 use Rattle.pack.specs.Pack.{usable_count}

@@ -1,22 +1,19 @@
 -- What each public function of the board promises of its result. The functions cite these by name, and so does the theorem that any two
 -- results which a promise allows are equal (proofs/Promises).
 -- Assumes nothing.
-use Rattle.std.specs.Prelude.{Bool, not, cond, List, [], ◌∷◌, ◌≡◌, ℕ, ◌≤◌, ltb}
+use Rattle.std.specs.Prelude.{Bool, not, cond, List, [], ◌∷◌, ◌≡◌, ℕ, ◌≤◌, ltb, Option}
 use Rattle.refusals.specs.declared.Refusal.{Refusal}
 use Rattle.refusals.specs.declared.Refusal.TheVariants.{NoRoom, NoFrameHeld, NoBoard}
-use Rattle.refusals.specs.declared.Outcome.{Outcome}
-use Rattle.refusals.specs.Refusals.{is_done, first}
+use Rattle.refusals.specs.Refusals.{Outcome, is_done, first}
 use Rattle.events.specs.declared.Event.{Event}
 use Rattle.events.specs.Events.{capacity, kept_count, new_count, kept_of, new_of, placed}
 use Rattle.board.specs.declared.Board.{Board}
 use Rattle.board.specs.declared.Answer.{Answer}
 use Rattle.board.specs.declared.Heard.{Heard}
 use Rattle.board.specs.declared.Stored.{Stored}
-use Rattle.answers.specs.declared.Shown.{Shown}
 use Rattle.answers.specs.Registers.{shown_at}
 use Rattle.answers.specs.Answers.{asked_outcome, asked_settings, asked_reply}
-use Rattle.requests.specs.declared.Request.{Request}
-use Rattle.requests.specs.Requests.{request_of}
+use Rattle.requests.specs.Requests.{request_of, Asked}
 use Rattle.settings.specs.declared.Settings.{Settings}
 use Rattle.replies.specs.Replies.{Filled}
 use Rattle.board.specs.Start.{start_of}
@@ -41,7 +38,7 @@ abbrev pub request_answer : Board → List ℕ → Answer
 request_answer b s = record { outcome = request_outcome b s; board = cond (is_done (request_outcome b s)) (changed_by b s (request_of s)) b }
 
 -- what a request changes that is accepted: the board after it, of any bytes that ask this and leave those settings
-pub record Changed (b : Board) (q : Request) (st : Settings) (r : Board) : Type 0 where
+pub record Changed (b : Board) (q : Asked) (st : Settings) (r : Board) : Type 0 where
   pub changed : (s : List ℕ) → st ≡ asked_settings b.pack s q → r ≡ changed_by b s q
 
 -- ---- the calls
@@ -82,7 +79,7 @@ pub record Answered (b : Board) (s before : List ℕ) (r : Answer) (after : List
 
 -- ---- what is read off a board
 
-abbrev pub ShowsRegister : Board → ℕ → Shown → Type 0
+abbrev pub ShowsRegister : Board → ℕ → Option ℕ → Type 0
 ShowsRegister b at r = r ≡ shown_at b.pack b.hire at
 
 abbrev pub ShowsCharge : Board → Bool → Type 0

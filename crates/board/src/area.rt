@@ -4,6 +4,7 @@ ghost use Rattle.board.specs.Calls.{save, load};
 ghost use Rattle.board.specs.Promises.{Answers, Leaves};
 
 use crate::{Answer, Board};
+use events::Events;
 
 impl Board {
     // The kept events into the area, oldest first; nothing written where it is refused. Nothing is marked.
@@ -11,7 +12,7 @@ impl Board {
         ensures { Leaves self (save (length area.old)) area.old result area.new }
     {
         let outcome = self.pack.outcome();
-        if !outcome.is_done() {
+        if outcome.is_err() {
             return self.with_outcome(outcome);
         }
         let saved = self.hire.events.save(area);
@@ -23,12 +24,14 @@ impl Board {
         ensures { Answers self (load area.now) result }
     {
         let outcome = self.pack.outcome();
-        if !outcome.is_done() {
+        if outcome.is_err() {
             return self.with_outcome(outcome);
         }
-        let loaded = self.hire.events.load(area);
-        let outcome = loaded.outcome;
-        self.with_hire(self.hire.with_events(loaded.events))
-            .with_outcome(outcome)
+        match Events::load(area) {
+            Ok(events) => self
+                .with_hire(self.hire.with_events(events))
+                .with_outcome(Ok(())),
+            Err(refusal) => self.with_outcome(Err(refusal)),
+        }
     }
 }

@@ -1,5 +1,5 @@
 // A frame: one whole request, answered into a lent buffer.
-ghost use Rattle.std.specs.Prelude.{◌≡◌, length};
+ghost use Rattle.std.specs.Prelude.{Ok, ◌≡◌, length};
 ghost use Rattle.board.specs.Changes.{cleared_events, cleared_statistics, marked_by};
 ghost use Rattle.board.specs.Calls.{frame};
 ghost use Rattle.board.specs.Promises.{Leaves, Roomed, Changed, Answered};
@@ -17,7 +17,7 @@ impl Board {
         ensures { Leaves self (frame request.now (length reply.old)) reply.old result reply.new }
     {
         let outcome = self.has_room(reply.len());
-        if !outcome.is_done() {
+        if outcome.is_err() {
             replies::zero_from(reply, 0);
             return self.with_outcome(outcome);
         }
@@ -28,37 +28,30 @@ impl Board {
     pub(crate) fn has_room(self, room: usize) -> Outcome
         ensures { Roomed self room result }
     {
-        let outcome = self.pack.outcome();
-        if !outcome.is_done() {
-            return outcome;
-        }
+        self.pack.outcome()?;
         if room < 259 {
-            Outcome::Refused(Refusal::NoRoom)
-        } else {
-            Outcome::Done
+            return Err(Refusal::NoRoom);
         }
+        Ok(())
     }
 
     // The answer to a request, and what it changes.
     pub(crate) fn answered(self, request: &[u8], reply: &mut [u8]) -> Answer
         ensures { Answered self request.now reply.old result reply.new }
     {
-        let told = answers::answer(self.pack, self.hire, request, reply);
-        let outcome = told.outcome;
-        let asked = told.asked;
-        let is_taken = outcome.is_done();
-        if is_taken {
-            return self.changed(asked, told.settings).with_outcome(outcome);
+        match answers::answer(self.pack, self.hire, request, reply) {
+            Ok(taken) => self
+                .changed(taken.asked, taken.settings)
+                .with_outcome(Ok(())),
+            Err(refusal) => self.with_outcome(Err(refusal)),
         }
-        self.with_outcome(outcome)
     }
 
     // The board after an accepted request: nothing changes but by 0x02's clears, a write, and 0x11's mark.
     fn changed(self, asked: Request, settings: Settings) -> Board
-        ensures { Changed self asked settings result }
+        ensures { Changed self (Ok asked) settings result }
     {
         match asked {
-            Request::Refused(_) => self,
             Request::ClearEvents => self.clear_events(),
             Request::ClearStatistics => self.clear_statistics(),
             Request::Write { form: _, count: _ } => self.with_settings(settings),

@@ -30,14 +30,15 @@ pub struct Board {
     pub hire: Hire, // what one rider did and saw
 }
 
-// What a call gives back: what it came to, and the board after it.
+// What a call gives back: what it came to, and the board after it, which comes back after a refusal too.
 #[derive(Clone, Copy)]
 pub struct Answer {
     pub outcome: Outcome,
     pub board: Board,
 }
 
-// What an offer gives back: what it came to, how many of its bytes were taken, and the board after it.
+// What an offer gives back: what it came to, how many of its bytes were taken (a number of every call, as demand 2 compares it; 0 of one that
+// is refused), and the board after it.
 #[derive(Clone, Copy)]
 pub struct Heard {
     pub outcome: Outcome,
@@ -45,7 +46,8 @@ pub struct Heard {
     pub board: Board,
 }
 
-// What a keep gives back: what it came to, the new edition, 0 where there is none, and the board as it was.
+// What a keep gives back: what it came to, the new edition (a number of every call, as demand 2 compares it; 0 of one that is refused), and the
+// board as it was.
 #[derive(Clone, Copy)]
 pub struct Stored {
     pub outcome: Outcome,
@@ -69,11 +71,11 @@ impl Board {
         ensures { Leaves self (handover number (length bytes.old)) bytes.old result bytes.new }
     {
         let outcome = self.pack.outcome();
-        if !outcome.is_done() {
+        if outcome.is_err() {
             return self.with_outcome(outcome);
         }
         let put = self.ended(number).put(bytes);
-        let is_put = put.is_done();
+        let is_put = put.is_ok();
         if !is_put {
             return self.with_outcome(put);
         }

@@ -16,7 +16,7 @@ impl Board {
         ensures { Offers self bytes.now result }
     {
         let outcome = self.pack.outcome();
-        if !outcome.is_done() {
+        if outcome.is_err() {
             return Heard {
                 outcome,
                 taken: 0,
@@ -37,7 +37,7 @@ impl Board {
         ensures { Leaves self (fetch (length reply.old)) reply.old result reply.new }
     {
         let outcome = self.ready(reply.len());
-        if !outcome.is_done() {
+        if outcome.is_err() {
             replies::zero_from(reply, 0);
             return self.with_outcome(outcome);
         }
@@ -56,15 +56,11 @@ impl Board {
     fn ready(self, room: usize) -> Outcome
         ensures { Readied self room result }
     {
-        let outcome = self.has_room(room);
-        if !outcome.is_done() {
-            return outcome;
+        self.has_room(room)?;
+        if !self.hire.receiver.is_held() {
+            return Err(Refusal::NoFrameHeld);
         }
-        if self.hire.receiver.is_held() {
-            Outcome::Done
-        } else {
-            Outcome::Refused(Refusal::NoFrameHeld)
-        }
+        Ok(())
     }
 
     fn with_receiver(self, receiver: Receiver) -> Board

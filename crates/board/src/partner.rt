@@ -13,7 +13,7 @@ impl Board {
         ensures { Leaves self (cabinet (length slice.old)) slice.old result slice.new }
     {
         let outcome = self.pack.outcome();
-        if !outcome.is_done() {
+        if outcome.is_err() {
             return self.with_outcome(outcome);
         }
         let filled = self.measured().fill(slice);

@@ -3,11 +3,10 @@ ghost use Rattle.std.specs.Prelude.{◌≡◌};
 ghost use Rattle.board.specs.Promises.{ShowsRegister, ShowsCharge, ShowsDischarge, ShowsDecision, ShowsBalancing, ShowsLifetime, CountsKept, ShowsKept, CountsNew, ShowsNew};
 
 use crate::Board;
-use answers::Shown;
 use events::Event;
 
 impl Board {
-    pub fn register(self, at: u16) -> Shown
+    pub fn register(self, at: u16) -> Option<u16>
         ensures { ShowsRegister self at result }
     {
         answers::register(self.pack, self.hire, at)

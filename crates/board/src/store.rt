@@ -11,19 +11,24 @@ impl Board {
         ensures { Stores self store.old result store.new }
     {
         let outcome = self.pack.outcome();
-        if !outcome.is_done() {
+        if outcome.is_err() {
             return Stored {
                 outcome,
                 edition: 0,
                 board: self,
             };
         }
-        let kept = classes::keep(store, self.pack.settings);
-        let outcome = kept.outcome;
-        Stored {
-            outcome,
-            edition: kept.edition,
-            board: self,
+        match classes::keep(store, self.pack.settings) {
+            Ok(edition) => Stored {
+                outcome: Ok(()),
+                edition,
+                board: self,
+            },
+            Err(refusal) => Stored {
+                outcome: Err(refusal),
+                edition: 0,
+                board: self,
+            },
         }
     }
 
@@ -32,11 +37,12 @@ impl Board {
         ensures { Answers self (recall store.now edition) result }
     {
         let outcome = self.pack.outcome();
-        if !outcome.is_done() {
+        if outcome.is_err() {
             return self.with_outcome(outcome);
         }
-        let recalled = classes::recall(self.pack.settings, store, edition);
-        let outcome = recalled.outcome;
-        self.with_settings(recalled.settings).with_outcome(outcome)
+        match classes::recall(self.pack.settings, store, edition) {
+            Ok(settings) => self.with_settings(settings).with_outcome(Ok(())),
+            Err(refusal) => self.with_outcome(Err(refusal)),
+        }
     }
 }

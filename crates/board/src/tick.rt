@@ -15,7 +15,7 @@ impl Board {
         ensures { Answers self (tick cells.now readings) result }
     {
         let outcome = self.pack.tick_outcome(readings, cells.len());
-        if !outcome.is_done() {
+        if outcome.is_err() {
             return self.with_outcome(outcome);
         }
         self.ticked(cells, readings).with_outcome(outcome)

@@ -4,8 +4,7 @@ use Rattle.std.specs.Prelude.{Bool, not, cond, List, [], ◌∷◌, ◌++◌, �
 use Rattle.signed.specs.Signed.{bits_of, lower_of, higher_of}
 use Rattle.refusals.specs.declared.Refusal.{Refusal}
 use Rattle.refusals.specs.declared.Refusal.TheVariants.{WrongSlice}
-use Rattle.refusals.specs.declared.Outcome.{Outcome}
-use Rattle.refusals.specs.Refusals.{is_done, first}
+use Rattle.refusals.specs.Refusals.{Outcome, is_done, first}
 use Rattle.cells.specs.declared.Extremes.{Extremes}
 use Rattle.cells.specs.Cells.{sum_of, millivolts_of}
 use Rattle.readings.specs.declared.Readings.{Readings}

@@ -43,14 +43,12 @@ impl Measured {
         ensures { Fills self slice.old result slice.new }
     {
         if slice.len() != 20 {
-            return Outcome::Refused(Refusal::WrongSlice);
+            return Err(Refusal::WrongSlice);
         }
-        let mut i: u16 = 0;
-        while i < 20 {
-            slice[i as usize] = self.register(i);
-            i += 1;
+        for (i, register) in slice.iter_mut().enumerate() {
+            *register = self.register(i as u16);
         }
-        Outcome::Done
+        Ok(())
     }
 
     // By its place from 0x1000 on.
@@ -81,7 +79,7 @@ impl Measured {
 fn volts(sum: u32) -> u16
     ensures { result ≡ volts_of sum }
 {
-    held(sum / 100, 65535) as u16
+    (sum / 100).min(65535) as u16
 }
 
 // Each side of zero is divided by itself, so that both are rounded toward it; one of the two is 0.
@@ -96,13 +94,13 @@ fn amps(current: i32) -> u16
 fn charging(positive: u32) -> u32
     ensures { (result ≡ min (positive / 10) 32767) × (result ≤ 32767) }
 {
-    held(positive / 10, 32767)
+    (positive / 10).min(32767)
 }
 
 fn discharging(negative: u32) -> u32
     ensures { (result ≡ min (negative / 10) 32768) × (result ≤ 32768) }
 {
-    held(negative / 10, 32768)
+    (negative / 10).min(32768)
 }
 
 fn average(first: i16, second: i16) -> u16
@@ -143,10 +141,4 @@ fn half_of_sum(first: u16, second: u16) -> u16
 {
     let sum = ((first as u32) + 32768) % 65536 + ((second as u32) + 32768) % 65536;
     ((sum / 2 + 32768) % 65536) as u16
-}
-
-fn held(n: u32, most: u32) -> u32
-    ensures { result ≡ min n most }
-{
-    if n < most { n } else { most }
 }

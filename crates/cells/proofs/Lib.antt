@@ -1,3 +1,4 @@
 pub mod SomeEvery
 pub mod Document01
+pub mod Downward
 mod Facts

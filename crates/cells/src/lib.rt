@@ -1,7 +1,7 @@
 // What is read off the cells that a tick brings, as 16-bit numbers in 0.1 mV.
 #![tactic(auto)]
 
-ghost use Rattle.std.specs.Prelude.{◌≡◌, ◌-◌, ◌≤◌, min, max};
+ghost use Rattle.std.specs.Prelude.{◌≡◌, ◌-◌, ◌≤◌, take};
 ghost use Rattle.laws.specs.Fold.{bit_of};
 ghost use Rattle.cells.specs.Cells.{kept_of, extremes_of, sum_of, decides, decision_of, millivolts_of};
 
@@ -18,13 +18,11 @@ impl Extremes {
     pub fn of(cells: &[u16]) -> Extremes
         ensures { result ≡ extremes_of cells.now }
     {
-        let mut lowest: u16 = 65535;
-        let mut highest: u16 = 0;
-        let mut i = 0;
-        while i < cells.len() {
-            lowest = lower(lowest, cells[i]);
-            highest = higher(highest, cells[i]);
-            i += 1;
+        let mut lowest = u16::MAX;
+        let mut highest = 0;
+        for cell in cells {
+            lowest = lowest.min(*cell);
+            highest = highest.max(*cell);
         }
         Extremes { lowest, highest }
     }
@@ -33,7 +31,7 @@ impl Extremes {
     pub fn difference(self) -> u16
         ensures { result ≡ self.highest - self.lowest }
     {
-        over(self.highest, self.lowest)
+        self.highest.saturating_sub(self.lowest)
     }
 }
 
@@ -41,13 +39,9 @@ impl Extremes {
 pub fn kept(cells: &[u16]) -> [u16; 16]
     ensures { result ≡ kept_of cells.now }
 {
-    let n = up_to_16(cells.len());
-    let mut all = [0u16; 16];
-    let mut i = 0;
-    while i < n {
-        all[i] = cells[i];
-        i += 1;
-    }
+    let first = first_16(cells);
+    let mut all = [0; 16];
+    all[..first.len()].copy_from_slice(first);
     all
 }
 
@@ -55,12 +49,9 @@ pub fn kept(cells: &[u16]) -> [u16; 16]
 pub fn sum(cells: &[u16]) -> u32
     ensures { (result ≡ sum_of cells.now) × (result ≤ 1048560) }
 {
-    let n = up_to_16(cells.len());
-    let mut all: u32 = 0;
-    let mut i = 0;
-    while i < n {
-        all += wide(cells[i]);
-        i += 1;
+    let mut all = 0;
+    for cell in first_16(cells) {
+        all += *cell as u32;
     }
     all
 }
@@ -70,11 +61,9 @@ pub fn decision(cells: &[u16], r303: u16, r308: u16) -> u16
     ensures { result ≡ decision_of r303 r308 cells.now }
 {
     let low = Extremes::of(cells).lowest;
-    let mut i = up_to_16(cells.len());
-    let mut bits: u16 = 0;
-    while 0 < i {
-        i -= 1;
-        bits = bits + bits + decision_bit(r303, r308, low, cells[i]);
+    let mut bits = 0;
+    for cell in first_16(cells).iter().rev() {
+        bits = bits + bits + decision_bit(r303, r308, low, *cell);
     }
     bits
 }
@@ -86,47 +75,16 @@ pub fn millivolts(cell: u16) -> u16
     (((cell as u32) + 5) / 10) as u16
 }
 
-fn lower(a: u16, b: u16) -> u16
-    ensures { result ≡ min a b }
+fn first_16(cells: &[u16]) -> &[u16]
+    ensures { result.now ≡ take 16 cells.now }
 {
-    if a < b { a } else { b }
-}
-
-fn higher(a: u16, b: u16) -> u16
-    ensures { result ≡ max a b }
-{
-    if a < b { b } else { a }
-}
-
-// By how much a is over b; 0 if it is not.
-fn over(a: u16, b: u16) -> u16
-    ensures { result ≡ a - b }
-{
-    if b < a { a - b } else { 0 }
-}
-
-fn up_to_16(n: usize) -> usize
-    ensures { result ≡ min 16 n }
-{
-    if n < 16 { n } else { 16 }
-}
-
-fn wide(cell: u16) -> u32
-    ensures { (result ≡ cell) × (result ≤ 65535) }
-{
-    cell as u32
+    &cells[..cells.len().min(16)]
 }
 
 // The settings are in mV and the cells in 0.1 mV.
 fn decision_bit(r303: u16, r308: u16, low: u16, cell: u16) -> u16
     ensures { (result ≡ bit_of (decides r303 r308 low cell)) × (result ≤ 1) }
 {
-    let more = over(cell, low);
-    bit((10 * (r303 as u32) < cell as u32) & (10 * (r308 as u32) < more as u32))
-}
-
-fn bit(yes: bool) -> u16
-    ensures { (result ≡ bit_of yes) × (result ≤ 1) }
-{
-    if yes { 1 } else { 0 }
+    let more = cell.saturating_sub(low);
+    ((10 * (r303 as u32) < cell as u32) & (10 * (r308 as u32) < more as u32)) as u16
 }

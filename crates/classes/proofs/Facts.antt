@@ -6,10 +6,9 @@ use mathlib.Core.List.{List, [], ◌∷◌, ◌++◌, map}
 use Prim.Native.Nat.{ℕ}
 use lib.ListN.{set, replicate}
 use lib.Seq.{sets}
-use Rattle.refusals.specs.declared.Outcome.{Outcome}
-use Rattle.refusals.specs.declared.Outcome.TheVariants.{Done, Refused}
+use Rattle.refusals.specs.Refusals.{Outcome, Done, Refused, first}
+use Rattle.std.specs.Prelude.{Ok, Err}
 use Rattle.refusals.specs.declared.Refusal.TheVariants.{WrongStore, SpoiltStore, NoEdition, BrokenRules, EditionsUsedUp}
-use Rattle.refusals.specs.Refusals.{first}
 use Rattle.signed.specs.Signed.{bits_of, from_bits}
 use Rattle.settings.specs.Settings.{factory, minimum, maximum, register_of, registers, values_of, settings_of, fits, is_out, ordered}
 use Rattle.settings.specs.Settings.{judged_of, put_of, standing_of}
@@ -44,7 +43,7 @@ spoilt_store = (refl, refl, refl, refl, refl, refl, refl)
 
 -- 55: the last edition in a store with unused records; one below it is followed by the last
 used_up_lem : (first (keep_rows (with 32 (255 ∷ 255 ∷ 255 ∷ 255 ∷ []))) ≡ Refused EditionsUsedUp)
-    × (kept_by (with 32 (254 ∷ 255 ∷ 255 ∷ 255 ∷ [])) ≡ record { outcome = Done; edition = 4294967295 })
+    × (kept_by (with 32 (254 ∷ 255 ∷ 255 ∷ 255 ∷ [])) ≡ Ok 4294967295)
 unfolding store_rows first records_in edition_of repeated spoilt empty with
 used_up_lem = (refl, refl)
 
@@ -83,7 +82,7 @@ two_at_once = (refl, refl, refl, refl, refl, refl)
 -- ---- saving
 
 -- 1 in an empty store: every byte of the record, and nothing after it. -40 is 65,496 as its sixteen bits
-first_kept : (kept_by empty ≡ record { outcome = Done; edition = 1 })
+first_kept : (kept_by empty ≡ Ok 1)
     × (kept
     ≡ (1 ∷ 0 ∷ 0 ∷ 0 ∷ [])
     ++ (0xE8 ∷ 3 ∷ 0xE8 ∷ 3 ∷ 15 ∷ 0 ∷ 0xB0 ∷ 4 ∷ 0x20 ∷ 3 ∷ 1 ∷ 0 ∷ 1 ∷ 0 ∷ 20 ∷ 0 ∷ 0xD8 ∷ 0xFF ∷ 1 ∷ 0 ∷ 0 ∷ 0 ∷ 1 ∷ 0 ∷ [])
@@ -109,11 +108,12 @@ smallest_replaced = refl
 -- ---- recalling
 
 -- all twelve, as one write; one that is refused leaves all that stood
-recalled : (recall_of maximum kept 1 ≡ record { outcome = Done; settings = minimum })
-    × (recall_of maximum (sets kept 26 (8 ∷ 0 ∷ [])) 1 ≡ record { outcome = Refused BrokenRules; settings = maximum })
+recalled :
+    let refused = recall_of maximum (sets kept 26 (8 ∷ 0 ∷ [])) 1 in
+    (recall_of maximum kept 1 ≡ Ok minimum) × (refused ≡ Err BrokenRules) × (standing_of maximum refused ≡ maximum)
 unfolding recall_of kept store_rows first records_in store_of edition_of repeated spoilt empty place_for kept_of record_of register_of bits_of
     from_bits pairs_in drafted_of put_of judged_of is_out fits registers values_of settings_of ordered standing_of
-recalled = (refl, refl)
+recalled = (refl, refl, refl)
 
 -- ---- tidying
 

@@ -9,20 +9,21 @@ use borrow.Author.Tests.{ne_eqb, leb-false, not-false}
 use lib.Dec.{eqb}
 use lib.ListN.{length, get_or, drop, set, length-set}
 use Rattle.laws.specs.History.{any, largest}
-use Rattle.refusals.specs.declared.Outcome.{Outcome}
-use Rattle.refusals.specs.declared.Outcome.TheVariants.{Done, Refused}
-use Rattle.refusals.specs.Refusals.{is_done, first}
-use Rattle.refusals.proofs.Rows.{done_is, refused_not, off, off_both, and_then, first_append}
+use Rattle.refusals.specs.declared.Refusal.{Refusal}
+use Rattle.refusals.specs.Refusals.{Outcome, Done, is_done, giving, come_to, first}
+use Rattle.std.specs.Prelude.{Result, is_ok, Ok, Err}
+use Rattle.std.specs.Result.{result_unwrap_or}
+use Rattle.refusals.proofs.Rows.{done_is, refused_not, off, off_both, done_part, come_to_giving, is_ok_giving}
 use Rattle.settings.specs.declared.Settings.{Settings}
-use Rattle.settings.specs.declared.Written.{Written}
-use Rattle.writes.specs.Writes.{written_to}
+use Rattle.settings.specs.declared.Draft.{Draft}
+use Rattle.settings.specs.Settings as settings
+use Rattle.writes.specs.Writes.{drafted_of, written_to}
 use Rattle.editions.specs.Editions.{edition_of, spoilt, places, nonzero, is_in, record_for, repeated, place_for, next_edition}
 use Rattle.editions.specs.Editions.{last_edition, used_up, tidied_by}
 use Rattle.editions.proofs.Walks.{place_within}
 use Rattle.editions.proofs.Order.{in_order, rises}
 use Rattle.editions.proofs.Tidied.{same_any, same_length, tidied_same, same_found, same_record, same_repeated, in_order_lem, stays}
 use Rattle.editions.proofs.Replaced.{any_set, map_set, not_in, at_most, repeated_set, in_set, in_other, for_put, for_other, replaced}
-use Rattle.classes.specs.declared.Kept.{Kept}
 use Rattle.classes.specs.Store.{record_of, record_length, records_in, store_of, editions_in, ill_formed, store_rows, keep_rows, kept_of}
 use Rattle.classes.specs.Store.{kept_store, Keeps, recalled_pairs, class_for, pairs_for, not_found, breaks_rules, edition_rows, recall_rows}
 use Rattle.classes.specs.Store.{recall_of, tidied_store, Tidies}
@@ -34,51 +35,68 @@ use Rattle.classes.proofs.Recalled.{one_request, edition_back, written_back}
 
 -- ---- recalls from a store that is well formed
 
--- from whether the edition is not found, and what the write of its record comes to
-abbrev outcome_by : Bool → Written → Outcome
-outcome_by t w = first (edition_rows t (not (is_done w.outcome)))
+-- from whether the edition is not found, and the write of its record
+abbrev recall_by : Bool → Draft → Result Settings Refusal
+recall_by t d = giving (first (edition_rows t (not (is_ok (settings.written_of d))))) (settings.settings_in d)
 
-abbrev recall_by : Settings → Bool → Written → Written
-recall_by standing t w = record { outcome = outcome_by t w; settings = cond (is_done (outcome_by t w)) w.settings standing }
+abbrev draft_for : Settings → List ℕ → ℕ → Draft
+draft_for standing store e = drafted_of (settings.draft_of standing) (pairs_for store e)
 
 module _ (standing : Settings) where
   recall_by_lem : (store : List ℕ) (e : ℕ) → WellFormed store
-      → recall_of standing store e ≡ recall_by standing (not_found store e) (written_to standing (pairs_for store e))
+      → recall_of standing store e ≡ recall_by (not_found store e) (draft_for standing store e)
   unfolding recall_of
   recall_by_lem store e h =
-      ap (λ (o : Outcome). record { outcome = o; settings = cond (is_done o) (written_to standing (pairs_for store e)).settings standing })
-      (first_append (store_rows store) (edition_rows (not_found store e) (breaks_rules standing (pairs_for store e)))
-      ∙ ap (λ (o : Outcome). and_then o (outcome_by (not_found store e) (written_to standing (pairs_for store e)))) h)
+      ap (λ (o : Outcome). giving o (settings.settings_in (draft_for standing store e)))
+      (sym (done_part (store_rows store) (edition_rows (not_found store e) (breaks_rules standing (pairs_for store e))) (sym h)))
 
   recalled_alike : (store other : List ℕ) (e : ℕ) → WellFormed store → WellFormed other → FoundAlike e store other
       → recall_of standing store e ≡ recall_of standing other e
   recalled_alike store other e a b f =
       recall_by_lem store e a
-      ∙ ap₂ (λ (t : Bool) (r : List ℕ). recall_by standing (eqb e 0 || not t) (written_to standing (recalled_pairs r))) f.0 f.1
+      ∙ ap₂ (λ (t : Bool) (r : List ℕ). recall_by (eqb e 0 || not t) (drafted_of (settings.draft_of standing) (recalled_pairs r))) f.0 f.1
       ∙ sym (recall_by_lem other e b)
 
   -- where it is done it is the write
-  is_write : (t : Bool) (o : Outcome) (s : Settings) → outcome_by t (record { outcome = o; settings = s }) ≡ Done
-      → recall_by standing t (record { outcome = o; settings = s }) ≡ record { outcome = o; settings = s }
+  is_write : (t : Bool) (o : Outcome) (s : Settings) → first (edition_rows t (not (is_ok (giving o s)))) ≡ Done
+      → giving (first (edition_rows t (not (is_ok (giving o s))))) s ≡ giving o s
   unfolding first
   is_write true o s e = absurd (refused_not _ e)
-  is_write false Done s e = refl
-  is_write false (Refused refusal) s e = absurd (refused_not _ e)
+  is_write false (Ok done) s e = refl
+  is_write false (Err refusal) s e = absurd (refused_not _ e)
 
-  recalling : (store : List ℕ) (e : ℕ) → (recall_of standing store e).outcome ≡ Done
-      → recall_of standing store e ≡ written_to standing (pairs_for store e)
+  last_rows : (store : List ℕ) (e : ℕ) → come_to (recall_of standing store e) ≡ Done → first (recall_rows standing store e) ≡ Done
   unfolding recall_of
+  last_rows store e h = sym (come_to_giving _ (settings.settings_in (draft_for standing store e))) ∙ h
+
+  recalling : (store : List ℕ) (e : ℕ) → come_to (recall_of standing store e) ≡ Done
+      → recall_of standing store e ≡ written_to standing (pairs_for store e)
   recalling store e h =
-      let w = written_to standing (pairs_for store e) in
-      let well = (off_both (store_rows store) _ h).0 in
-      recall_by_lem store e well
-      ∙ is_write (not_found store e) w.outcome w.settings (sym (ap (λ (x : Written). x.outcome) (recall_by_lem store e well)) ∙ h)
+      let draft = draft_for standing store e in
+      let rows = edition_rows (not_found store e) (breaks_rules standing (pairs_for store e)) in
+      let both = off_both (store_rows store) rows (last_rows store e h) in
+      recall_by_lem store e both.0 ∙ is_write (not_found store e) (settings.outcome_of draft) (settings.settings_in draft) both.1
 
   -- so a recall whose rows come to nothing is a write that is taken
-  pub taken : (store : List ℕ) (e : ℕ) → first (recall_rows standing store e) ≡ Done → (written_to standing (pairs_for store e)).outcome ≡ Done
+  pub taken : (store : List ℕ) (e : ℕ) → first (recall_rows standing store e) ≡ Done → settings.outcome_of (draft_for standing store e) ≡ Done
   taken store e h =
+      let draft = draft_for standing store e in
       let rows = edition_rows (not_found store e) (breaks_rules standing (pairs_for store e)) in
-      done_is _ (not-false _ (off _ _ _ (off _ _ _ (off_both (store_rows store) rows h).1).1).0)
+      done_is _ (sym (is_ok_giving (settings.outcome_of draft) (settings.settings_in draft))
+      ∙ not-false _ (off _ _ _ (off _ _ _ (off_both (store_rows store) rows h).1).1).0)
+
+-- a refused one leaves what stands
+left_standing : (standing s : Settings) (o : Outcome) → is_done (come_to (giving o s)) ≡ false
+    → settings.standing_of standing (giving o s) ≡ standing
+unfolding settings.standing_of
+left_standing standing s (Ok done) e = absurd (false≢true (sym e))
+left_standing standing s (Err refusal) e = refl
+
+-- the write of a record that is taken, after the rows of its edition
+as_written : (o : Outcome) (x s : Settings) → giving o x ≡ Ok s → giving (first (edition_rows false (not (is_ok (giving o x))))) x ≡ Ok s
+unfolding first
+as_written (Ok done) x s e = e
+as_written (Err refusal) x s e = absurd (false≢true (ap is_ok e))
 
 -- ---- records in a store
 
@@ -115,7 +133,7 @@ unspoilt e s h =
     ∙ ap (λ (t : Bool). t && any nonzero (drop 4 (record_of e s)))
     (ne_eqb (edition_of (record_of e s)) 0 (λ q. h (sym (edition_back e s) ∙ q)))
 
-module _ {s : Settings} {before after : List ℕ} {r : Kept} (k : Keeps s before r after) (z : r.outcome ≡ Done) where
+module _ {s : Settings} {before after : List ℕ} {edition : ℕ} (k : Keeps s before (Ok edition) after) where
   abbrev es : List ℕ
   es = editions_in before
 
@@ -126,10 +144,10 @@ module _ {s : Settings} {before after : List ℕ} {r : Kept} (k : Keeps s before
   made = record_of new s
 
   done : first (keep_rows before) ≡ Done
-  done = sym (ap (λ (x : Kept). x.outcome) k.gives) ∙ z
+  done = sym (come_to_giving (first (keep_rows before)) new) ∙ sym (ap come_to k.gives)
 
-  edition_is : r.edition ≡ new
-  edition_is = ap (λ (x : Kept). x.edition) k.gives ∙ ap (λ (o : Outcome). cond (is_done o) new 0) done
+  edition_is : edition ≡ new
+  edition_is = ap (λ (r : Result ℕ Refusal). result_unwrap_or r 0) (k.gives ∙ ap (λ (o : Outcome). giving o new) done)
 
   before_well : WellFormed before
   before_well = (off_both (store_rows before) _ done).0
@@ -202,7 +220,7 @@ module _ {s : Settings} {before after : List ℕ} {r : Kept} (k : Keeps s before
             (ap (eqb e) (sym (edition_in before (place_for es))) ∙ stays),
       )
 
-  keeping : AfterKeep s before after r.edition
+  keeping : AfterKeep s before after edition
   unfolding first
   keeping =
       subst⁻¹ (AfterKeep s before after) edition_is
@@ -214,8 +232,10 @@ module _ {s : Settings} {before after : List ℕ} {r : Kept} (k : Keeps s before
         others = found_others;
         recalled = λ standing rules held.
             recall_by_lem standing after new after_well
-            ∙ ap₂ (recall_by standing) (ap₂ (λ (t u : Bool). t || not u) (ne_eqb new 0 (λ q. omega arith)) found_new)
-            (ap (λ (r : List ℕ). written_to standing (recalled_pairs r)) class_new ∙ written_back standing new s rules held);
+            ∙ ap₂ recall_by (ap₂ (λ (t u : Bool). t || not u) (ne_eqb new 0 (λ q. omega arith)) found_new)
+            (ap (λ (r : List ℕ). drafted_of (settings.draft_of standing) (recalled_pairs r)) class_new)
+            ∙ as_written (settings.outcome_of (drafted_of (settings.draft_of standing) (recalled_pairs made))) _ s
+            (written_back standing new s rules held);
       }
 
 -- ---- after a tidying
@@ -278,16 +298,16 @@ pub laws : Laws
 unfolding recall_of
 laws =
     record {
-      keeping = λ s before r after k z. keeping k z;
+      keeping = λ s before edition after k. keeping k;
       recalling = recalling;
       one_request = one_request;
       tidying = λ before outcome after t z. tidying t z;
-      keep_refused = λ s before r after k z.
-          let o : is_done (first (keep_rows before)) ≡ false = sym (ap (λ (x : Kept). is_done x.outcome) k.gives) ∙ z in (
-            k.store ∙ ap (λ (t : Bool). cond t (kept_store before s) before) o,
-            ap (λ (x : Kept). x.edition) k.gives ∙ ap (λ (t : Bool). cond t (next_edition (editions_in before)) 0) o,
-          );
-      recall_refused = λ standing store e z. ap (λ (t : Bool). cond t (written_to standing (pairs_for store e)).settings standing) z;
+      keep_refused = λ s before refusal after k.
+          k.store
+          ∙ ap (λ (o : Outcome). cond (is_done o) (kept_store before s) before)
+          (sym (come_to_giving (first (keep_rows before)) (next_edition (editions_in before))) ∙ sym (ap come_to k.gives));
+      recall_refused = λ standing store e z.
+          left_standing standing (settings.settings_in (draft_for standing store e)) (first (recall_rows standing store e)) z;
       tidy_refused = λ before outcome after t z.
           t.store ∙ ap (λ (u : Bool). cond u (tidied_store before) before) (sym (ap is_done t.outcome_is) ∙ z);
     }

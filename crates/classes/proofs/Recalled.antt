@@ -10,10 +10,11 @@ use lib.Seq.{ext_get_or}
 use lib.Signed.{mag}
 use Rattle.laws.specs.History.{any, head_or, newest}
 use Rattle.laws.proofs.Looking.{none_first, none_after}
-use Rattle.refusals.specs.declared.Outcome.TheVariants.{Done}
+use Rattle.refusals.specs.Refusals.{Outcome, Done, giving}
+use Rattle.std.specs.Prelude.{Ok}
 use Rattle.settings.specs.declared.Settings.{Settings}
 use Rattle.settings.specs.Settings as settings
-use Rattle.settings.proofs.Drafts.{listed, by_register, unlisted_reads, begun_hundred, begun_at, begun_settings, done_stands}
+use Rattle.settings.proofs.Drafts.{listed, by_register, unlisted_reads, begun_hundred, begun_at, begun_settings}
 use Rattle.settings.proofs.Hundred.{values_length}
 use Rattle.writes.specs.declared.Pair.{Pair}
 use Rattle.writes.specs.Writes.{names, last_of, pair_at, pairs_of, well_counted, all_settings, drafted_of, written_to}
@@ -76,11 +77,10 @@ module _ (standing : Settings) (e : ℕ) (s : Settings) where
       rw place at (last_given_lem (300 + i) least most standing pairs ∙ ends (300 + i) ∙ sym (begun_at s (300 + i) least most)))
 
   pub written_back : settings.judged_of (settings.values_of s) ≡ Done → mag s.r320 < 32768
-      → written_to standing (recalled_pairs (record_of e s)) ≡ record { outcome = Done; settings = s }
+      → written_to standing (recalled_pairs (record_of e s)) ≡ Ok s
   unfolding pairs
   written_back rules held =
       let draft = drafted_of (settings.draft_of standing) pairs in
       let done : settings.outcome_of draft ≡ Done = ap settings.judged_of values_are ∙ rules in
-      let stands : (settings.written_of draft).settings ≡ s =
-      done_stands draft done ∙ ap settings.settings_of values_are ∙ begun_settings s held in
-      λ i. record { outcome = done i; settings = stands i }
+      ap (λ (o : Outcome). giving o (settings.settings_in draft)) done
+      ∙ ap Ok (ap settings.settings_of values_are ∙ begun_settings s held)

@@ -1,19 +1,17 @@
 -- What holds of a store (W-210 of document 02) by the promises of the three calls; proofs/Laws.antt proves it. Assumes nothing.
-use Rattle.std.specs.Prelude.{true, false, cond, ◌⊎◌, ◌≡◌, ℕ, ◌*◌, ◌<◌, length, get_or}
+use Rattle.std.specs.Prelude.{true, false, cond, ◌⊎◌, ◌≡◌, ℕ, ◌*◌, ◌<◌, length, get_or, Ok, Err}
 use mathlib.Core.List.{List, ◌∷◌, ◌++◌, reverse, Permᴰ}
 use Rattle.std.specs.Int.Signed.{mag}
 use Rattle.laws.specs.History.{each}
 use Rattle.numbers.specs.Numbers.{le16}
-use Rattle.refusals.specs.declared.Outcome.{Outcome}
-use Rattle.refusals.specs.declared.Outcome.TheVariants.{Done}
-use Rattle.refusals.specs.Refusals.{is_done, first}
+use Rattle.refusals.specs.declared.Refusal.{Refusal}
+use Rattle.refusals.specs.Refusals.{Outcome, Done, is_done, come_to, first}
 use Rattle.settings.specs.declared.Settings.{Settings}
-use Rattle.settings.specs.Settings.{values_of, judged_of}
+use Rattle.settings.specs.Settings.{values_of, judged_of, standing_of}
 use Rattle.writes.specs.declared.Form.TheVariants as form
 use Rattle.writes.specs.declared.Pair.{Pair}
 use Rattle.writes.specs.Writes.{pairs_of, all_settings, keeps_rules, written_to}
 use Rattle.editions.specs.Editions.{places, is_in, smallest}
-use Rattle.classes.specs.declared.Kept.{Kept}
 use Rattle.classes.specs.Store.{record_of, records_in, editions_in, store_rows, Keeps, recalled_pairs, class_for, pairs_for, recall_of}
 use Rattle.classes.specs.Store.{Tidies}
 
@@ -42,7 +40,7 @@ pub record AfterKeep (s : Settings) (before after : List ℕ) (edition : ℕ) : 
   pub others : (e : ℕ) → (e ≡ edition → ⊥) → (e ≡ replaced_in before → ⊥) → FoundAlike e after before
   -- a recall of the new edition gives the settings that were kept, whatever settings stand; they keep the rules, and 320 has its 16 bits
   pub recalled : (standing : Settings) → judged_of (values_of s) ≡ Done → mag s.r320 < 32768
-      → recall_of standing after edition ≡ record { outcome = Done; settings = s }
+      → recall_of standing after edition ≡ Ok s
 
 -- ---- a recall is one write
 
@@ -76,18 +74,19 @@ pub record AfterTidy (before after : List ℕ) : Type 0 where
 -- ---- all of them
 
 pub record Laws : Type 0 where
-  pub keeping : (s : Settings) (before : List ℕ) (r : Kept) (after : List ℕ) → Keeps s before r after → r.outcome ≡ Done
-      → AfterKeep s before after r.edition
+  pub keeping : (s : Settings) (before : List ℕ) (edition : ℕ) (after : List ℕ) → Keeps s before (Ok edition) after
+      → AfterKeep s before after edition
   -- writes all twelve under 01's rules, as one write
-  pub recalling : (standing : Settings) (store : List ℕ) (edition : ℕ) → (recall_of standing store edition).outcome ≡ Done
+  pub recalling : (standing : Settings) (store : List ℕ) (edition : ℕ) → come_to (recall_of standing store edition) ≡ Done
       → recall_of standing store edition ≡ written_to standing (pairs_for store edition)
   pub one_request : (r : List ℕ) → OneRequest (recalled_pairs r)
   pub tidying : (before : List ℕ) (outcome : Outcome) (after : List ℕ) → Tidies before outcome after → outcome ≡ Done
       → AfterTidy before after
   -- refused, nothing changed
-  pub keep_refused : (s : Settings) (before : List ℕ) (r : Kept) (after : List ℕ) → Keeps s before r after → is_done r.outcome ≡ false
-      → (after ≡ before) × (r.edition ≡ 0)
-  pub recall_refused : (standing : Settings) (store : List ℕ) (edition : ℕ) → is_done (recall_of standing store edition).outcome ≡ false
-      → (recall_of standing store edition).settings ≡ standing
+  pub keep_refused : (s : Settings) (before : List ℕ) (refusal : Refusal) (after : List ℕ) → Keeps s before (Err refusal) after
+      → after ≡ before
+  pub recall_refused : (standing : Settings) (store : List ℕ) (edition : ℕ)
+      → is_done (come_to (recall_of standing store edition)) ≡ false
+      → standing_of standing (recall_of standing store edition) ≡ standing
   pub tidy_refused : (before : List ℕ) (outcome : Outcome) (after : List ℕ) → Tidies before outcome after → is_done outcome ≡ false
       → after ≡ before

@@ -1,9 +1,5 @@
 -- How the calls are made: what their parts find and leave in a store. No paper speaks of it. Assumes nothing.
 use Rattle.std.specs.Prelude.{List, [], ◌++◌, ◌≡◌, ℕ, suc, length, get_or, take, drop, set}
-use Rattle.refusals.specs.declared.Refusal.TheVariants.{BrokenRules}
-use Rattle.refusals.specs.declared.Outcome.{Outcome}
-use Rattle.refusals.specs.declared.Outcome.TheVariants.{Done, Refused}
-use Rattle.settings.specs.declared.Written.{Written}
 use Rattle.editions.specs.Editions.{edition_of, put_in}
 use Rattle.classes.specs.Store.{records_in}
 
@@ -20,11 +16,3 @@ pub record PutAt (before : List ℕ) (i : ℕ) (r after : List ℕ) : Type 0 whe
 pub record Sunk (before : List ℕ) (i : ℕ) (after : List ℕ) : Type 0 where
   pub same : length after ≡ length before
   pub records : records_in after ≡ take i (records_in before) ++ put_in edition_of (record_at before i) (drop (suc i) (records_in before))
-
--- a write that is refused breaks the rules, whichever it breaks
-abbrev pub broken_by : Outcome → Outcome
-broken_by Done = Done
-broken_by (Refused refusal) = Refused BrokenRules
-
-abbrev pub by_the_rules : Written → Written
-by_the_rules w = record { outcome = broken_by w.outcome; settings = w.settings }

@@ -1,20 +1,19 @@
 -- Settings by hire class (W-210 of document 02): a store of 16 records of 32 bytes, no header: an edition number (32 bits, 0 for unused),
 -- the twelve listed settings in register order, four zero bytes, all low byte first; unused is all zeros. A record is a list of bytes.
 -- Assumes nothing.
-use Rattle.std.specs.Prelude.{Bool, ◌||◌, not, cond, List, [], ◌∷◌, ◌++◌, map, ◌≡◌, ℕ, zero, suc, ◌+◌, ◌*◌, eqb, length, get_or, take, drop, set, replicate}
+use Rattle.std.specs.Prelude.{Bool, ◌||◌, not, cond, List, [], ◌∷◌, ◌++◌, map, ◌≡◌, ℕ, zero, suc, ◌+◌, ◌*◌, eqb, length, get_or, take, drop}
+use Rattle.std.specs.Prelude.{set, replicate, is_ok, Result}
 use Rattle.laws.specs.History.{each, any}
 use Rattle.numbers.specs.Numbers.{le16_at, le16, le32}
 use Rattle.refusals.specs.declared.Refusal.{Refusal}
 use Rattle.refusals.specs.declared.Refusal.TheVariants.{WrongStore, SpoiltStore, NoEdition, BrokenRules, EditionsUsedUp}
-use Rattle.refusals.specs.declared.Outcome.{Outcome}
-use Rattle.refusals.specs.Refusals.{is_done, first}
+use Rattle.refusals.specs.Refusals.{Outcome, is_done, giving, first}
 use Rattle.settings.specs.declared.Settings.{Settings}
-use Rattle.settings.specs.declared.Written.{Written}
 use Rattle.settings.specs.Settings.{register_of}
+use Rattle.settings.specs.Settings as settings
 use Rattle.writes.specs.declared.Pair.{Pair}
-use Rattle.writes.specs.Writes.{written_to}
+use Rattle.writes.specs.Writes.{drafted_of, written_to}
 use Rattle.editions.specs.Editions.{edition_of, spoilt, places, is_in, record_for, repeated, place_for, next_edition, used_up, tidied_by}
-use Rattle.classes.specs.declared.Kept.{Kept}
 
 -- ---- a record
 
@@ -72,13 +71,12 @@ kept_of rs s = set rs (place_for (map edition_of rs)) (record_of (next_edition (
 abbrev pub kept_store : List ℕ → Settings → List ℕ
 kept_store store s = store_of (kept_of (records_in store) s)
 
--- the new edition; 0 where it is refused
-abbrev pub kept_by : List ℕ → Kept
-kept_by store =
-    record { outcome = first (keep_rows store); edition = cond (is_done (first (keep_rows store))) (next_edition (editions_in store)) 0 }
+-- the new edition, where it is not refused
+abbrev pub kept_by : List ℕ → Result ℕ Refusal
+kept_by store = giving (first (keep_rows store)) (next_edition (editions_in store))
 
 -- every byte of the store; refused, nothing changed
-pub record Keeps (s : Settings) (before : List ℕ) (r : Kept) (after : List ℕ) : Type 0 where
+pub record Keeps (s : Settings) (before : List ℕ) (r : Result ℕ Refusal) (after : List ℕ) : Type 0 where
   pub gives : r ≡ kept_by before
   pub store : after ≡ cond (is_done (first (keep_rows before))) (kept_store before s) before
 
@@ -105,7 +103,7 @@ not_found store edition = eqb edition 0 || not (is_in edition (editions_in store
 
 -- 54, its settings break the rules
 abbrev pub breaks_rules : Settings → List Pair → Bool
-breaks_rules standing ps = not (is_done (written_to standing ps).outcome)
+breaks_rules standing ps = not (is_ok (written_to standing ps))
 
 abbrev pub edition_rows : Bool → Bool → List (Refusal × Bool)
 edition_rows missing broken = (NoEdition, missing) ∷ (BrokenRules, broken) ∷ []
@@ -114,14 +112,11 @@ abbrev pub recall_rows : Settings → List ℕ → ℕ → List (Refusal × Bool
 recall_rows standing store edition =
     store_rows store ++ edition_rows (not_found store edition) (breaks_rules standing (pairs_for store edition))
 
--- writes all twelve under 01's rules; refused, nothing changed
-unfoldable pub recall_of : Settings → List ℕ → ℕ → Written
+-- writes all twelve under 01's rules: the settings that it leaves, or why it is refused
+unfoldable pub recall_of : Settings → List ℕ → ℕ → Result Settings Refusal
 recall_of standing store edition =
-    record {
-      outcome = first (recall_rows standing store edition);
-      settings =
-          cond (is_done (first (recall_rows standing store edition))) (written_to standing (pairs_for store edition)).settings standing;
-    }
+    giving (first (recall_rows standing store edition))
+    (settings.settings_in (drafted_of (settings.draft_of standing) (pairs_for store edition)))
 
 -- ---- a scan tidies a store: used records by rising edition, then unused
 

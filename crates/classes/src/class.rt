@@ -13,10 +13,8 @@ pub(crate) fn record_of(edition: u32, settings: Settings) -> [u8; 32]
 {
     let mut class = [0u8; 32];
     put_low_first_32(&mut class, 0, edition);
-    let mut i = 0;
-    while i < 12 {
+    for i in 0..TWELVE.len() {
         put_low_first_16(&mut class, 4 + 2 * i, settings.register(register_at(i)));
-        i += 1;
     }
     class
 }
@@ -25,18 +23,15 @@ pub(crate) fn record_of(edition: u32, settings: Settings) -> [u8; 32]
 pub(crate) fn drafted(draft: Draft, class: [u8; 32]) -> Draft
     ensures { result ≡ drafted_of draft (recalled_pairs class) }
 {
-    let standing = draft.standing;
     let mut values = draft.values;
-    let mut i = 0;
-    while i < 12 {
+    for i in 0..TWELVE.len() {
         put_value(
             &mut values,
             register_at(i) as u32,
             low_first_16(&class, 4 + 2 * i),
         );
-        i += 1;
     }
-    Draft { standing, values }
+    Draft { values }
 }
 
 fn register_at(i: usize) -> u16

@@ -17,10 +17,8 @@ pub fn crc(bytes: &[u8]) -> u16
     // Lent from here, the table is laid out once; read as the constant, at each look-up.
     let table = TABLE;
     let mut sum: u16 = 0xFFFF;
-    let mut i = 0;
-    while i < bytes.len() {
-        sum = byte_in(sum, bytes[i], &table);
-        i += 1;
+    for byte in bytes {
+        sum = byte_in(sum, *byte, &table);
     }
     sum
 }

@@ -4,8 +4,7 @@ use mathlib.Core.Path.{◌≡◌, refl}
 use mathlib.Core.List.{List, [], ◌∷◌, map}
 use Prim.Native.Nat.{ℕ}
 use Rattle.refusals.specs.declared.Refusal.TheVariants.{WrongRecord}
-use Rattle.refusals.specs.declared.Outcome.TheVariants.{Done, Refused}
-use Rattle.refusals.specs.Refusals.{first}
+use Rattle.refusals.specs.Refusals.{Done, Refused, first}
 use Rattle.desk.specs.declared.Record.{Record}
 use Rattle.desk.specs.Desk.{record_bytes, record_of, record_rows}
 

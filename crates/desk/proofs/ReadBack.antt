@@ -7,7 +7,7 @@ use Prim.Native.Nat.{ℕ, ◌+◌}
 use native.Mathlib.Omega.{arith}
 use lib.ListN.{length, drop_of_length-le}
 use lib.Seq.{sets-eq}
-use Rattle.refusals.specs.declared.Outcome.TheVariants.{Done}
+use Rattle.refusals.specs.Refusals.{Done}
 use Rattle.numbers.specs.Numbers.{le32, le64, Wrote}
 use Rattle.numbers.proofs.ReadBack.{stands}
 use Rattle.desk.specs.declared.Record.{Record}

@@ -26,7 +26,7 @@ impl Record {
         ensures { Puts self bytes.old result bytes.new }
     {
         if bytes.len() != RECORD {
-            return Outcome::Refused(Refusal::WrongRecord);
+            return Err(Refusal::WrongRecord);
         }
         put_low_first_32(bytes, 0, self.pack);
         put_low_first_32(bytes, 4, self.seconds);
@@ -34,10 +34,11 @@ impl Record {
         put_low_first_64(bytes, 16, self.negative);
         put_low_first_32(bytes, 24, self.distance);
         put_low_first_32(bytes, 28, self.latchings);
-        Outcome::Done
+        Ok(())
     }
 
     // What the first 32 bytes say; one that is missing reads 0.
+    #[tactic(auto, unfolding(crate::specs::Desk::record_of))]
     pub fn of(bytes: &[u8]) -> Record
         ensures { result ≡ record_of bytes.now }
     {

@@ -1,18 +1,17 @@
 -- The steps of the time axis asked one after the other, and which label a mark has. Assumes nothing.
 use mathlib.Core.Path.{◌≡◌, refl, sym, ap, ap₂, subst, ◌∙◌}
-use mathlib.Core.Bool.{Bool, true, false, cond, not}
+use mathlib.Core.Bool.{Bool, true, false, cond}
 use mathlib.Core.List.{List, [], ◌∷◌, ◌++◌, append-nil}
-use Prim.Native.Nat.{ℕ, ◌+◌, ◌-◌, ◌*◌, ◌/◌, ◌%◌, ◌<◌, ◌≤◌, min}
+use Prim.Native.Nat.{ℕ, ◌+◌, ◌*◌, ◌/◌, ◌%◌, ◌<◌, ◌≤◌}
 use native.Mathlib.Numerals.{add-one}
 use native.Mathlib.Omega.{arith}
-use borrow.Author.Tests.{leb-true, leb-false, le-leb, lt-leb, lt-ltb, le-ltb, eq-eqb, ne_eqb}
-use lib.Dec.{leb, ltb}
+use borrow.Author.Tests.{leb-true, leb-false, le-leb, lt-leb, lt-ltb, le-ltb}
+use lib.Dec.{leb}
 use lib.ListN.{length, get_or, drop, drop_of_length-le, length-append}
 use lib.Seq.{drop-cons}
 use Rattle.text.specs.Digits.{digit, decimal_text, Put, Wrote}
 use Rattle.text.proofs.Writing.{put_wrote, join_put}
-use Rattle.drawing.specs.Heights.{most_whole}
-use Rattle.drawing.specs.Marks.{steps, first_reaching, mark_step, has_label, is_day}
+use Rattle.drawing.specs.Marks.{steps, first_reaching, mark_step, is_day}
 use Rattle.drawing.specs.Marks.{day_text, seconds_text, minutes_text, clock_text, label_text}
 
 pub steps_long : length steps ≡ 41
@@ -61,19 +60,6 @@ eighties step ticks = go (leb (ticks / 80 + (ticks % 80 + 79) / 80) step) refl
     go false e = sym (lt-leb ticks (step * 80) (omega (arith, leb-false (ticks / 80 + (ticks % 80 + 79) / 80) step e)))
 
 -- ---- labels
-
-pub label_first : (second step span : ℕ) → second ≡ 0 → true ≡ has_label second step span
-label_first second step span e = rw (eq-eqb second 0 e)
-
-pub label_later : {behind left held : ℕ} (second step span : ℕ) → (second ≡ 0 → ⊥) → behind ≡ span - 10 * second
-    → left ≡ min behind (most_whole * 8) → held ≡ min step most_whole → leb (held * 30) (left * 4) ≡ has_label second step span
-label_later {behind} {left} {held} second step span n b l h = rw (ne_eqb second 0 n) (go (leb (held * 30) (left * 4)) refl)
-  where
-    go : (t : Bool) → leb (held * 30) (left * 4) ≡ t → t ≡ not (ltb ((span - 10 * second) * 4) (min step most_whole * 30))
-    go true e =
-        rw (le-ltb ((span - 10 * second) * 4) (min step most_whole * 30) (omega (arith, leb-true (held * 30) (left * 4) e)))
-    go false e =
-        rw (lt-ltb ((span - 10 * second) * 4) (min step most_whole * 30) (omega (arith, leb-false (held * 30) (left * 4) e)))
 
 module _ (second step ticks : ℕ) {t : Bool} where
   pub label_day : t ≡ is_day second step ticks → t ≡ true → label_text second step ticks ≡ day_text second

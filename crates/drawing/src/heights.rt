@@ -2,7 +2,6 @@
 ghost use Rattle.std.specs.Prelude.{◌≡◌};
 ghost use Rattle.drawing.specs.Heights.{place_of};
 
-use crate::room::less;
 use crate::share::share;
 
 // Heights grow downwards: `high` is at 0, and what lies `span` below it at 1000.
@@ -17,6 +16,6 @@ impl Scale {
     pub fn place(self, value: u32) -> u16
         ensures { result ≡ place_of self value }
     {
-        share(less(self.high, value as u64), self.span, 1000) as u16
+        share(self.high.saturating_sub(u64::from(value)), self.span, 1000) as u16
     }
 }

@@ -3,7 +3,7 @@
 // by whoever reads it. A text that has no room is not put at all, and the place stays.
 #![tactic(auto)]
 
-ghost use Rattle.std.specs.Prelude.{◌≡◌, min, max};
+ghost use Rattle.std.specs.Prelude.{◌≡◌};
 ghost use Rattle.drawing.specs.Heights.{scale_of, open_scale_of};
 
 mod band;
@@ -13,7 +13,6 @@ mod room;
 mod runs;
 mod share;
 
-use crate::room::less;
 pub use band::put_band;
 use columns::Band;
 pub use heights::Scale;
@@ -22,13 +21,14 @@ pub use runs::{any_set, put_runs};
 
 // From the lesser of the lower limit and the lowest reading to the greater of the upper limit and the highest, with a pad at both ends in
 // which a line of text has room.
+#[tactic(auto, unfolding(crate::specs::Heights::scale_of))]
 pub fn scale(limits: Band, readings: Band, height: u32) -> Scale
     ensures { result ≡ scale_of limits readings height }
 {
-    let low = lesser(limits.lowest, readings.lowest) as u64;
-    let high = greater(limits.highest, readings.highest) as u64;
-    let between = less(high, low);
-    let pad = between * 14 / ((greater(29, height) - 28) as u64) + 1;
+    let low = u64::from(limits.lowest.min(readings.lowest));
+    let high = u64::from(limits.highest.max(readings.highest));
+    let between = high.saturating_sub(low);
+    let pad = between * 14 / (u64::from(height.max(29)) - 28) + 1;
     Scale {
         high: high + pad,
         span: between + 2 * pad,
@@ -36,24 +36,13 @@ pub fn scale(limits: Band, readings: Band, height: u32) -> Scale
 }
 
 // From 0 to the highest, or to `least` where this is more, with no pad.
+#[tactic(auto, unfolding(crate::specs::Heights::open_scale_of))]
 pub fn open_scale(highest: u32, least: u32) -> Scale
     ensures { result ≡ open_scale_of highest least }
 {
-    let most = greater(least, highest) as u64;
+    let most = u64::from(least.max(highest));
     Scale {
         high: most,
         span: most,
     }
-}
-
-fn lesser(a: u32, b: u32) -> u32
-    ensures { result ≡ min a b }
-{
-    if a < b { a } else { b }
-}
-
-fn greater(a: u32, b: u32) -> u32
-    ensures { result ≡ max a b }
-{
-    if a < b { b } else { a }
 }

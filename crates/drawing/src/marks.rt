@@ -1,10 +1,10 @@
 // Marks of the time axis: how far apart they are, where each stands and what it is labelled. A second has ten ticks; a mark stands at a
 // second, and the axis is `span` ticks long, of which `ticks` are recorded.
-ghost use Rattle.std.specs.Prelude.{◌++◌, ◌≡◌, ◌+◌, ◌-◌, ◌*◌, ◌≤◌, ◌<◌, leb, length, get_or};
+ghost use Rattle.std.specs.Prelude.{◌++◌, ◌≡◌, ◌+◌, ◌-◌, ◌*◌, ◌≤◌, ◌<◌, leb, length};
 ghost use Rattle.text.specs.Digits.{digit, decimal_text, Put};
-ghost use Rattle.drawing.specs.Marks.{steps, mark_step, mark_place, has_label, is_day, clock_text, label_text};
+ghost use Rattle.drawing.specs.Marks.{mark_step, mark_place, has_label, is_day, clock_text, label_text};
 
-use crate::share::{MOST, lesser, share};
+use crate::share::{MOST, share};
 use text::{decimal_length, has_room, put_decimal, put_text};
 
 const HOUR: u64 = 3600;
@@ -59,25 +59,24 @@ const STEPS: [u64; 41] = [
 ];
 
 // The first step of which eight reach so many ticks; past all of them the last.
+#[tactic(auto, unfolding(crate::specs::Marks::steps))]
 pub fn mark_step(ticks: u64) -> u64
     ensures { result ≡ mark_step ticks }
 {
-    let mut i = 0;
-    while i < 41 {
-        let step = step_at(i);
+    for step in STEPS {
         if reaches(step, ticks) {
             return step;
         }
-        i += 1;
     }
-    step_at(40)
+    STEPS[40]
 }
 
 // How far along the axis a second stands, in hundredths of a per cent.
+#[tactic(auto, unfolding(crate::specs::Heights::share_of))]
 pub fn mark_place(second: u64, span: u64) -> u64
     ensures { result ≡ mark_place second span }
 {
-    share(10 * lesser(second, MOST), span, 10000)
+    share(second.saturating_mul(10), span, 10000)
 }
 
 // The label at 0 always, another only where it is not cut: where three quarters of a step are left.
@@ -87,8 +86,8 @@ pub fn has_label(second: u64, step: u64, span: u64) -> bool
     if second == 0 {
         return true;
     }
-    let left = lesser(ticks_behind(second, span), MOST * 8);
-    lesser(step, MOST) * 30 <= left * 4
+    let left = span.saturating_sub(second.saturating_mul(10)).min(MOST * 8);
+    step.min(MOST) * 30 <= left * 4
 }
 
 pub fn put_label(out: &mut [u8], at: usize, second: u64, step: u64, ticks: u64) -> usize
@@ -106,28 +105,11 @@ pub fn put_label(out: &mut [u8], at: usize, second: u64, step: u64, ticks: u64) 
     put_clock(out, at, second)
 }
 
-fn step_at(i: usize) -> u64
-    requires { i < 41 }
-    ensures { result ≡ get_or steps i 0 }
-{
-    STEPS[i]
-}
-
 // Do eight steps reach so many ticks?
 fn reaches(step: u64, ticks: u64) -> bool
     ensures { result ≡ leb ticks (step * 80) }
 {
     ticks / 80 + (ticks % 80 + 79) / 80 <= step
-}
-
-// Ticks from a second to the end of the axis.
-fn ticks_behind(second: u64, span: u64) -> u64
-    ensures { result ≡ span - 10 * second }
-{
-    if second <= span / 10 {
-        return span - 10 * second;
-    }
-    0
 }
 
 fn is_day(second: u64, step: u64, ticks: u64) -> bool

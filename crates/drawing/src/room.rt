@@ -11,17 +11,7 @@ pub(crate) fn room_from(length: usize, at: usize) -> u64
     requires { length < 2 ^ 63 }
     ensures { result ≡ length + 1 - at }
 {
-    less(length as u64 + 1, at as u64)
-}
-
-// What is left of a count; 0 where no more is there than is taken.
-pub(crate) fn less(count: u64, taken: u64) -> u64
-    ensures { result ≡ count - taken }
-{
-    if taken < count {
-        return count - taken;
-    }
-    0
+    (length as u64 + 1).saturating_sub(at as u64)
 }
 
 pub(crate) fn digits(number: u64) -> u64

@@ -1,13 +1,11 @@
 -- What firmware is told is what the board's own call answers. Assumes nothing.
+use Rattle.std.specs.Prelude.{Option, Some, None}
 use mathlib.Core.Bool.{true, false}
 use mathlib.Core.List.{List}
 use mathlib.Core.Path.{◌≡◌, sym, ap, ◌∙◌}
 use Prim.Native.Nat.{ℕ}
-use Rattle.refusals.specs.declared.Outcome.{Outcome}
-use Rattle.refusals.specs.Refusals.{number_of}
+use Rattle.refusals.specs.Refusals.{Outcome, number_of}
 use Rattle.classes.specs.Store.{Tidies}
-use Rattle.answers.specs.declared.Shown.{Shown}
-use Rattle.answers.specs.declared.Shown.TheVariants.{Register, Nothing}
 use Rattle.board.specs.declared.Board.{Board}
 use Rattle.board.specs.declared.Answer.{Answer}
 use Rattle.board.specs.declared.Stored.{Stored}
@@ -26,8 +24,8 @@ kept l e = record { answer = e ∙ ap stored_of l.answer; lent = l.lent }
 pub tidied : {before after : List ℕ} {outcome : Outcome} {n : ℕ} → Tidies before outcome after → n ≡ number_of outcome → Tidied before n after
 tidied t e = record { told = e ∙ ap number_of t.outcome_is; store = t.store }
 
-pub some_word : {r s : Shown} {value : ℕ} → r ≡ s → r ≡ Register value → ◌≡◌ {A = Word} (record { value = value; is = true }) (word_of s)
+pub some_word : {r s : Option ℕ} {value : ℕ} → r ≡ s → r ≡ Some value → ◌≡◌ {A = Word} (record { value = value; is = true }) (word_of s)
 some_word e f = ap word_of (sym f ∙ e)
 
-pub no_word : {r s : Shown} → r ≡ s → r ≡ Nothing → ◌≡◌ {A = Word} (record { value = 0; is = false }) (word_of s)
+pub no_word : {r s : Option ℕ} → r ≡ s → r ≡ None → ◌≡◌ {A = Word} (record { value = 0; is = false }) (word_of s)
 no_word e f = ap word_of (sym f ∙ e)

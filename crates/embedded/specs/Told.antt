@@ -1,11 +1,8 @@
 -- What firmware is told of a call: the number that the caller gets, the register of a 44, what else the call gives, and the board after it.
 -- Assumes nothing.
-use Rattle.std.specs.Prelude.{true, false, cond, List, ◌≡◌, ℕ}
-use Rattle.refusals.specs.declared.Outcome.{Outcome}
-use Rattle.refusals.specs.Refusals.{number_of, register_of, is_done, first}
+use Rattle.std.specs.Prelude.{true, false, cond, List, ◌≡◌, ℕ, Option, Some, None}
+use Rattle.refusals.specs.Refusals.{Outcome, number_of, register_of, is_done, first}
 use Rattle.classes.specs.Store.{tidy_rows, tidied_store}
-use Rattle.answers.specs.declared.Shown.{Shown}
-use Rattle.answers.specs.declared.Shown.TheVariants.{Register, Nothing}
 use Rattle.board.specs.declared.Board.{Board}
 use Rattle.board.specs.declared.Answer.{Answer}
 use Rattle.board.specs.declared.Heard.{Heard}
@@ -42,6 +39,6 @@ pub record Tidied (before : List ℕ) (number : ℕ) (after : List ℕ) : Type 0
   pub told : number ≡ number_of (first (tidy_rows before))
   pub store : after ≡ cond (is_done (first (tidy_rows before))) (tidied_store before) before
 
-abbrev pub word_of : Shown → Word
-word_of (Register value) = record { value = value; is = true }
-word_of Nothing = record { value = 0; is = false }
+abbrev pub word_of : Option ℕ → Word
+word_of (Some value) = record { value = value; is = true }
+word_of None = record { value = 0; is = false }

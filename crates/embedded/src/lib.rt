@@ -11,10 +11,9 @@ ghost use Rattle.answers.specs.Length.{length_in};
 ghost use Rattle.answers.specs.Registers.{shown_at};
 ghost use Rattle.embedded.specs.Told.{told_by, told_of, heard_of, Tells, Kept, Tidied, word_of};
 
-use answers::Shown;
 use board::{Answer, Board};
 use readings::Readings;
-use refusals::Outcome;
+use refusals::{Outcome, number_of, register_of};
 
 // What a call tells: its number, the register of a 44, what else it gives (how many bytes an offer took, the edition of a keep), the board.
 #[repr(C)]
@@ -26,7 +25,7 @@ pub struct Told {
     pub board: Board,
 }
 
-// A register's value, where there is one.
+// A register's value, where there is one: C has no Option.
 #[repr(C)]
 #[derive(Clone, Copy)]
 pub struct Word {
@@ -110,8 +109,7 @@ pub fn slatecauseway_recall(board: Board, store: &[u8], edition: u32) -> Told
 pub fn slatecauseway_tidy(store: &mut [u8]) -> u8
     ensures { Tidied store.old result store.new }
 {
-    let outcome = classes::tidy(store);
-    outcome.number()
+    number_of(classes::tidy(store))
 }
 
 // ---- what is shown
@@ -120,8 +118,8 @@ pub fn slatecauseway_register(board: Board, at: u16) -> Word
     ensures { result ≡ word_of (shown_at board.pack board.hire at) }
 {
     match board.register(at) {
-        Shown::Register(value) => Word { value, is: true },
-        Shown::Nothing => Word {
+        Some(value) => Word { value, is: true },
+        None => Word {
             value: 0,
             is: false,
         },
@@ -172,8 +170,8 @@ fn put_together(outcome: Outcome, more: usize, board: Board) -> Told
     ensures { result ≡ told_by outcome more board }
 {
     Told {
-        number: outcome.number(),
-        which: outcome.register(),
+        number: number_of(outcome),
+        which: register_of(outcome),
         more,
         board,
     }

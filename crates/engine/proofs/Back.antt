@@ -1,10 +1,9 @@
 -- Looking back through the ticks, from the newest to the oldest: what the ticks before tell is still what all of them tell.
 -- Assumes nothing.
 use mathlib.Core.Path.{◌≡◌, refl, sym, ap, ◌∙◌}
-use mathlib.Core.Bool.{Bool, true, false, ◌&&◌, ◌||◌, not, cond, and-true, and-false}
+use mathlib.Core.Bool.{Bool, true, false, ◌&&◌, ◌||◌, not, cond, and-true}
 use mathlib.Core.List.{List, [], ◌∷◌}
-use Prim.Native.Nat.{ℕ, zero, suc, ◌+◌, ◌*◌, ◌-◌, ◌<◌, ◌≤◌}
-use native.Mathlib.Nat.{not-suc-le-zero}
+use Prim.Native.Nat.{ℕ, suc, ◌+◌, ◌*◌, ◌-◌, ◌<◌, ◌≤◌}
 use native.Mathlib.Omega.{arith}
 use lib.Dec.{ltb}
 use Rattle.laws.specs.History.{any, newest, ago, stands, waits}
@@ -28,9 +27,6 @@ standing c st count s i = stands (held c) (recovered c) (moments_of st count s i
 pub record LooksBack (c : Condition) (st : Settings) (count : ℕ) (s : List ℕ) (n i : ℕ) : Type 0 where
   pub rest : standing c st count s i ≡ standing c st count s n
 
-pub begun : {c : Condition} {st : Settings} {count : ℕ} {s : List ℕ} {n : ℕ} → LooksBack c st count s n n
-begun = record { rest = refl }
-
 module _ {c : Condition} {st : Settings} {count : ℕ} {s : List ℕ} {n i : ℕ} (l : LooksBack c st count s n i) (h : 0 < i) where
   found : (a b : Bool) → held c (moment_at st count s (i - 1)) ≡ a → recovered c (moment_at st count s (i - 1)) ≡ b
       → (a || standing c st count s (i - 1) && not b) ≡ standing c st count s n
@@ -38,22 +34,11 @@ module _ {c : Condition} {st : Settings} {count : ℕ} {s : List ℕ} {n i : ℕ
       rw (sym e, sym f) (sym (ap (stands (held c) (recovered c)) (before st count s i h)
       ∙ stands_next (held c) (recovered c) (moment_at st count s (i - 1)) (moments_of st count s (i - 1))) ∙ l.rest)
 
-  pub was_held : {t : Bool} → t ≡ held c (moment_at st count s (i - 1)) → t ≡ true → true ≡ standing c st count s n
-  was_held e f = found true (recovered c (moment_at st count s (i - 1))) (sym e ∙ f) refl
-
   module _ {t u : Bool} (e : t ≡ held c (moment_at st count s (i - 1))) (f : t ≡ false)
       (g : u ≡ recovered c (moment_at st count s (i - 1)))
     where
-      pub was_recovered : u ≡ true → false ≡ standing c st count s n
-      was_recovered v = sym (and-false (standing c st count s (i - 1))) ∙ found false true (sym e ∙ f) (sym g ∙ v)
-
       pub passed : u ≡ false → LooksBack c st count s n (i - 1)
       passed v = record { rest = sym (and-true (standing c st count s (i - 1))) ∙ found false false (sym e ∙ f) (sym g ∙ v) }
-
-pub ended : {c : Condition} {st : Settings} {count : ℕ} {s : List ℕ} {n i : ℕ} → LooksBack c st count s n i → i ≤ 0
-    → false ≡ standing c st count s n
-ended {i = zero} l h = l.rest
-ended {i = suc i} l h = absurd (not-suc-le-zero h)
 
 -- ---- with a wait: so many ticks are gone, and the first i of n are still to be seen
 
@@ -64,11 +49,6 @@ pub record WaitsBack (c : Condition) (st : Settings) (count : ℕ) (s : List ℕ
   pub within : i ≤ n
   pub rest : waiting c (n - i + ago (held c) (moments_of st count s i)) (moments_of st count s i)
       ≡ waits (held c) wait_of (moments_of st count s n)
-
-pub waits_begun : {c : Condition} {st : Settings} {count : ℕ} {s : List ℕ} {n : ℕ} → WaitsBack c st count s n n
-waits_begun {c} {st} {count} {s} {n} =
-    let d : n - n + ago (held c) (moments_of st count s n) ≡ ago (held c) (moments_of st count s n) = omega arith in
-    record { within = omega arith; rest = ap (λ (gone : ℕ). waiting c gone (moments_of st count s n)) d }
 
 module _ {c : Condition} {st : Settings} {count : ℕ} {s : List ℕ} {n i : ℕ} (l : WaitsBack c st count s n i) where
   module _ (h : 0 < i) {t : Bool} (e : t ≡ held c (moment_at st count s (i - 1))) where
@@ -97,8 +77,3 @@ module _ {c : Condition} {st : Settings} {count : ℕ} {s : List ℕ} {n i : ℕ
           within = omega (arith, l.within);
           rest = ap (λ (gone : ℕ). waiting c gone (moments_of st count s (i - 1))) d ∙ waits_found false (sym e ∙ f);
         }
-
-pub waits_ended : {c : Condition} {st : Settings} {count : ℕ} {s : List ℕ} {n i : ℕ} → WaitsBack c st count s n i → i ≤ 0
-    → false ≡ waits (held c) wait_of (moments_of st count s n)
-waits_ended {i = zero} l h = l.rest
-waits_ended {i = suc i} l h = absurd (not-suc-le-zero h)

@@ -14,7 +14,7 @@ use Rattle.readings.specs.Readings.{connected}
 use Rattle.guard.specs.declared.Remembered.{Remembered}
 use Rattle.guard.specs.Guard.{recovers_of}
 use Rattle.guard.specs.Account.{Moment, holds, connected_at_any, since_hot}
-use Rattle.engine.specs.Engine.{record_at, moment_at, moments_of}
+use Rattle.engine.specs.Engine.{moment_at, moments_of}
 use Rattle.engine.specs.Looks.{connected_at, either_of, stays_hot, unbroken_hot}
 
 -- ---- the externals seen
@@ -66,9 +66,8 @@ pub record Stretch (st : Settings) (count : ℕ) (s : List ℕ) (j n : ℕ) (see
   pub so_far : unbroken ≡ unbroken_hot (stretch st count s j i)
 
 pub begun : {st : Settings} {count : ℕ} {s : List ℕ} {j n : ℕ} {seen : Remembered} {unbroken : Bool} → j < n
-    → seen ≡ connected_at (record_at count s j).readings
+    → seen ≡ connected_at (moment_at st count s j).readings
     → unbroken ≡ (holds (moment_at st count s j)).ot → Stretch st count s j n seen unbroken (j + 1)
-unfolding moment_at
 begun {st} {count} {s} {j} h e f =
     let z : j - j ≡ 0 = omega arith in
     let first : stretch st count s j (j + 1) ≡ moment_at st count s j ∷ [] = stretch_next st count s j j (omega arith)
@@ -82,9 +81,8 @@ begun {st} {count} {s} {j} h e f =
 module _ {st : Settings} {count : ℕ} {s : List ℕ} {j n : ℕ} {seen : Remembered} {unbroken : Bool} {i : ℕ}
     (g : Stretch st count s j n seen unbroken i)
   where
-    pub next : {on later : Remembered} {stays : Bool} → i < n → on ≡ connected_at (record_at count s i).readings → later ≡ either_of on seen
+    pub next : {on later : Remembered} {stays : Bool} → i < n → on ≡ connected_at (moment_at st count s i).readings → later ≡ either_of on seen
         → stays ≡ stays_hot later (moment_at st count s i) → Stretch st count s j n later (unbroken && stays) (i + 1)
-    unfolding moment_at
     next {on} {later} {stays} h e d f =
         let m = moment_at st count s i in
         let p = stretch_next st count s j i (omega (arith, g.within)) in
@@ -99,9 +97,6 @@ module _ {st : Settings} {count : ℕ} {s : List ℕ} {j n : ℕ} {seen : Rememb
               ∙ sym (more m (i - j) (moments_of st count s i) (omega (arith, g.within)) (omega arith))
               ∙ ap unbroken_hot (sym p);
         }
-
-    pub done : n ≤ i → unbroken ≡ unbroken_hot (take (n - j) (moments_of st count s n))
-    done h = let e : i ≡ n = omega (arith, g.within) in g.so_far ∙ ap (λ (k : ℕ). unbroken_hot (stretch st count s j k)) e
 
     -- what is broken stays so, whatever comes
     broken_on : unbroken ≡ false → (k : ℕ) (to : ℕ) → i + k ≡ to → unbroken_hot (stretch st count s j to) ≡ false
@@ -146,19 +141,5 @@ module _ {st : Settings} {count : ℕ} {s : List ℕ} {n j : ℕ} (g : Tries st 
       ∙ ap (λ (k : ℕ). some (longest unbroken_hot k (moments_of st count s n))) (sym d)
       ∙ g.rest
 
-  not_empty : j < n → some (stretch st count s j n) ≡ true
-  not_empty h = go (n - j) n (omega arith) h
-    where
-      go : (k n : ℕ) → 0 < k → j < n → some (take k (moments_of st count s n)) ≡ true
-      go zero n l h = absurd (not-suc-le-zero l)
-      go (suc k) zero l h = absurd (not-suc-le-zero h)
-      go (suc k) (suc n) l h = refl
-
-  pub found : {t : Bool} → t ≡ unbroken_hot (stretch st count s j n) → t ≡ true → j < n → true ≡ some (since_hot (moments_of st count s n))
-  found e f h = sym (not_empty h) ∙ tried true h (sym e ∙ f)
-
   pub further : {t : Bool} → t ≡ unbroken_hot (stretch st count s j n) → t ≡ false → j < n → Tries st count s n (j + 1)
   further e f h = record { within = omega arith; rest = tried false h (sym e ∙ f) }
-
-  pub nowhere : n ≤ j → false ≡ some (since_hot (moments_of st count s n))
-  nowhere h = let z : n - j ≡ 0 = omega arith in ap (λ (k : ℕ). some (longest unbroken_hot k (moments_of st count s n))) (sym z) ∙ g.rest

@@ -7,12 +7,12 @@ ghost use Rattle.std.specs.Prelude.{◌≡◌, ◌*◌, ◌-◌, ◌<◌, min, t
 ghost use Rattle.laws.specs.History.{some, stands, waits};
 ghost use Rattle.cells.specs.Cells.{extremes_of};
 ghost use Rattle.guard.specs.Account.{wait_of, since_hot, latched_from};
-ghost use Rattle.engine.specs.Engine.{record_at, moment_at, moments_of};
+ghost use Rattle.engine.specs.Engine.{record_at, moments_of};
+ghost use Rattle.engine.specs.Week.{moment, first_ticks};
 ghost use Rattle.engine.specs.Looks.{held, recovers_with, recovered, connected_at, either_of, stays_hot, unbroken_hot};
 
 use cells::Extremes;
 use guard::{Condition, Conditions, Remembered, Waits};
-use numbers::lesser;
 use record::Record;
 use settings::Settings;
 
@@ -21,153 +21,172 @@ use settings::Settings;
 pub fn latched(settings: Settings, records: &[u8], count: u8, ticks: usize) -> Conditions
     ensures { result ≡ latched_from (moments_of settings count records.now ticks) }
 {
-    let uv = stands(settings, records, count, ticks, Condition::UV);
-    let ov = stands(settings, records, count, ticks, Condition::OV);
-    let ot = ot_stands(settings, records, count, ticks);
-    let doc = waits(settings, records, count, ticks, Condition::DOC);
-    let coc = waits(settings, records, count, ticks, Condition::COC);
-    let roc = waits(settings, records, count, ticks, Condition::ROC);
-    let lt = stands(settings, records, count, ticks, Condition::LT);
-    Conditions {
-        uv,
-        ov,
-        ot,
-        doc,
-        coc,
-        roc,
-        lt,
-    }
+    let week = Week {
+        settings,
+        records,
+        count,
+    };
+    week.latched(ticks)
 }
 
-// It held at a tick, and no later one recovered it.
-fn stands(settings: Settings, records: &[u8], count: u8, ticks: usize, condition: Condition) -> bool
-    ensures { result ≡ stands (held condition) (recovered condition) (moments_of settings count records.now ticks) }
-{
-    let mut tick = ticks;
-    while 0 < tick {
-        tick -= 1;
-        if held(settings, records, count, tick, condition) {
-            return true;
+// The records of a week, and the settings and the cell count of the board that they are of.
+#[derive(Clone, Copy)]
+struct Week<'a> {
+    settings: Settings,
+    records: &'a [u8],
+    count: u8,
+}
+
+impl Week<'_> {
+    #[tactic(auto, unfolding(guard::specs::Guard::recovers_of, guard::specs::Table::is, guard::specs::Account::latched_from))]
+    fn latched(&self, ticks: usize) -> Conditions
+        ensures { result ≡ latched_from (first_ticks self.now ticks) }
+    {
+        Conditions {
+            uv: self.stands(ticks, Condition::UV),
+            ov: self.stands(ticks, Condition::OV),
+            ot: self.ot_stands(ticks),
+            doc: self.waits(ticks, Condition::DOC),
+            coc: self.waits(ticks, Condition::COC),
+            roc: self.waits(ticks, Condition::ROC),
+            lt: self.stands(ticks, Condition::LT),
         }
-        if recovered(settings, records, count, tick, condition) {
+    }
+
+    // It held at a tick, and no later one recovered it.
+    #[tactic(auto, using(crate::proofs::Back::passed))]
+    fn stands(&self, ticks: usize, condition: Condition) -> bool
+        ensures { result ≡ stands (held condition) (recovered condition) (first_ticks self.now ticks) }
+    {
+        for tick in (0..ticks).rev() {
+            if self.held(tick, condition) {
+                return true;
+            }
+            if self.recovered(tick, condition) {
+                return false;
+            }
+        }
+        false
+    }
+
+    // It held at a tick, and since the latest such tick there were fewer ticks than the wait.
+    #[tactic(auto, using(crate::proofs::Back::waits_held, crate::proofs::Back::waits_passed))]
+    fn waits(&self, ticks: usize, condition: Condition) -> bool
+        ensures { result ≡ waits (held condition) wait_of (first_ticks self.now ticks) }
+    {
+        for tick in (0..ticks).rev() {
+            if self.held(tick, condition) {
+                return ticks - tick - 1 < self.wait();
+            }
+        }
+        false
+    }
+
+    // OT by W-204: some ticks up to the newest are unbroken. The longest such stretch is tried first.
+    #[tactic(auto, using(crate::proofs::Stretch::tries, crate::proofs::Stretch::further))]
+    fn ot_stands(&self, ticks: usize) -> bool
+        ensures { result ≡ some (since_hot (first_ticks self.now ticks)) }
+    {
+        for first in 0..ticks {
+            if self.is_unbroken(first, ticks) {
+                return true;
+            }
+        }
+        false
+    }
+
+    // OT held at the first of these ticks, and at each later one it held or was not recovered, by the sensors connected since the first.
+    fn is_unbroken(&self, first: usize, ticks: usize) -> bool
+        requires { first < ticks }
+        ensures { result ≡ unbroken_hot (take (ticks - first) (first_ticks self.now ticks)) }
+    {
+        let mut seen = self.connected(first);
+        if !self.held(first, Condition::OT) {
             return false;
         }
+        for tick in first + 1..ticks {
+            let now = self.connected(tick);
+            seen = either(now, seen);
+            if !self.stays_hot(tick, seen) {
+                return false;
+            }
+        }
+        true
     }
-    false
-}
 
-// It held at a tick, and since the latest such tick there were fewer ticks than the wait.
-fn waits(settings: Settings, records: &[u8], count: u8, ticks: usize, condition: Condition) -> bool
-    ensures { result ≡ waits (held condition) wait_of (moments_of settings count records.now ticks) }
-{
-    let mut tick = ticks;
-    while 0 < tick {
-        tick -= 1;
-        if held(settings, records, count, tick, condition) {
-            return ticks - tick - 1 < wait(settings);
+    // OT holds at this tick, or is not recovered.
+    #[tactic(auto, unfolding(guard::specs::Table::is))]
+    fn stays_hot(&self, tick: usize, seen: Remembered) -> bool
+        ensures { result ≡ stays_hot seen (moment self.now tick) }
+    {
+        self.held(tick, Condition::OT) | !self.recovers(tick, seen).ot
+    }
+
+    // The table's column 'Holds' at a tick.
+    #[tactic(auto, unfolding(crate::specs::Engine::moment_at))]
+    fn held(&self, tick: usize, condition: Condition) -> bool
+        ensures { result ≡ held condition (moment self.now tick) }
+    {
+        let record = self.record(tick);
+        guard::holding(self.settings, record.readings, self.extremes(record.cells)).of(condition)
+    }
+
+    // Its column 'Recovers', where no sensor is remembered.
+    fn recovered(&self, tick: usize, condition: Condition) -> bool
+        ensures { result ≡ recovered condition (moment self.now tick) }
+    {
+        self.recovers(tick, Remembered::default()).of(condition)
+    }
+
+    // The column with these sensors remembered; of waits it tells nothing.
+    #[tactic(auto, unfolding(crate::specs::Engine::moment_at))]
+    fn recovers(&self, tick: usize, seen: Remembered) -> Conditions
+        ensures { result ≡ recovers_with seen (moment self.now tick) }
+    {
+        let record = self.record(tick);
+        guard::recovering(
+            self.settings,
+            record.readings,
+            self.extremes(record.cells),
+            Waits::default(),
+            seen,
+        )
+    }
+
+    // The externals that are connected at a tick.
+    #[tactic(auto, unfolding(crate::specs::Engine::moment_at))]
+    fn connected(&self, tick: usize) -> Remembered
+        ensures { result ≡ connected_at (moment self.now tick).readings }
+    {
+        let readings = self.record(tick).readings;
+        Remembered {
+            external1: readings::is_connected(readings.external1),
+            external2: readings::is_connected(readings.external2),
         }
     }
-    false
-}
 
-// OT by W-204: some ticks up to the newest are unbroken. The longest such stretch is tried first.
-fn ot_stands(settings: Settings, records: &[u8], count: u8, ticks: usize) -> bool
-    ensures { result ≡ some (since_hot (moments_of settings count records.now ticks)) }
-{
-    let mut first = 0;
-    while first < ticks {
-        if is_unbroken(settings, records, count, first, ticks) {
-            return true;
-        }
-        first += 1;
+    // 10·r332, in ticks.
+    fn wait(&self) -> usize
+        ensures { result ≡ 10 * self.now.settings.r332 }
+    {
+        10 * usize::from(self.settings.r332)
     }
-    false
-}
 
-// OT held at the first of these ticks, and at each later one it held or was not recovered, by the sensors connected since the first.
-fn is_unbroken(settings: Settings, records: &[u8], count: u8, first: usize, ticks: usize) -> bool
-    requires { first < ticks }
-    ensures { result ≡ unbroken_hot (take (ticks - first) (moments_of settings count records.now ticks)) }
-{
-    let mut seen = connected(records, count, first);
-    let mut unbroken = held(settings, records, count, first, Condition::OT);
-    let mut tick = first + 1;
-    while tick < ticks && unbroken {
-        let now = connected(records, count, tick);
-        seen = either(now, seen);
-        unbroken = unbroken & stays(settings, records, count, tick, seen);
-        tick += 1;
+    // The lowest and the highest of the board's cells.
+    fn extremes(&self, cells: [u16; 16]) -> Extremes
+        ensures { result ≡ extremes_of (take (min 16 self.now.count) cells) }
+    {
+        Extremes::of(&cells[..record::cells_used(self.count)])
     }
-    unbroken
-}
 
-// OT holds at this tick, or is not recovered.
-fn stays(settings: Settings, records: &[u8], count: u8, tick: usize, seen: Remembered) -> bool
-    ensures { result ≡ stays_hot seen (moment_at settings count records.now tick) }
-{
-    let hot = held(settings, records, count, tick, Condition::OT);
-    let cool = recovers(settings, records, count, tick, seen).ot;
-    hot | !cool
-}
-
-// The table's column 'Holds' at a tick.
-fn held(settings: Settings, records: &[u8], count: u8, tick: usize, condition: Condition) -> bool
-    ensures { result ≡ held condition (moment_at settings count records.now tick) }
-{
-    let record = record_at(records, count, tick);
-    let cells = record.cells;
-    let extremes = extremes(cells, count);
-    guard::holding(settings, record.readings, extremes).of(condition)
-}
-
-// Its column 'Recovers', where no sensor is remembered.
-fn recovered(
-    settings: Settings,
-    records: &[u8],
-    count: u8,
-    tick: usize,
-    condition: Condition,
-) -> bool
-    ensures { result ≡ recovered condition (moment_at settings count records.now tick) }
-{
-    let none = Remembered {
-        external1: false,
-        external2: false,
-    };
-    recovers(settings, records, count, tick, none).of(condition)
-}
-
-// The column with these sensors remembered; of waits it tells nothing.
-fn recovers(
-    settings: Settings,
-    records: &[u8],
-    count: u8,
-    tick: usize,
-    seen: Remembered,
-) -> Conditions
-    ensures { result ≡ recovers_with seen (moment_at settings count records.now tick) }
-{
-    let record = record_at(records, count, tick);
-    let cells = record.cells;
-    let extremes = extremes(cells, count);
-    let none = Waits {
-        doc: 0,
-        coc: 0,
-        roc: 0,
-    };
-    guard::recovering(settings, record.readings, extremes, none, seen)
-}
-
-// The externals that are connected at a tick.
-fn connected(records: &[u8], count: u8, tick: usize) -> Remembered
-    ensures { result ≡ connected_at (record_at count records.now tick).readings }
-{
-    let readings = record_at(records, count, tick).readings;
-    let external1 = readings::is_connected(readings.external1);
-    let external2 = readings::is_connected(readings.external2);
-    Remembered {
-        external1,
-        external2,
+    // A record past the end has no bytes, and a cut one has fewer; `Record::of` reads those as zeros.
+    fn record(&self, tick: usize) -> Record
+        ensures { result ≡ record_at self.now.count self.now.records.now tick }
+    {
+        // 48 times a huge number would not fit.
+        let start = tick.saturating_mul(48).min(self.records.len());
+        let bytes = &self.records[start..];
+        Record::of(&bytes[..bytes.len().min(48)], self.count)
     }
 }
 
@@ -177,39 +196,5 @@ fn either(a: Remembered, b: Remembered) -> Remembered
     Remembered {
         external1: a.external1 | b.external1,
         external2: a.external2 | b.external2,
-    }
-}
-
-// 10·r332, in ticks.
-fn wait(settings: Settings) -> usize
-    ensures { result ≡ 10 * settings.r332 }
-{
-    10 * (settings.r332 as usize)
-}
-
-fn extremes(cells: [u16; 16], count: u8) -> Extremes
-    ensures { result ≡ extremes_of (take (min 16 count) cells) }
-{
-    let n = record::cells_used(count);
-    Extremes::of(&cells[..n])
-}
-
-// A record past the end has no bytes, and a cut one has fewer; `Record::of` reads those as zeros.
-fn record_at(records: &[u8], count: u8, tick: usize) -> Record
-    ensures { result ≡ record_at count records.now tick }
-{
-    let from = start(records.len(), tick);
-    let end = from + lesser(48, records.len() - from);
-    Record::of(&records[from..end], count)
-}
-
-// Where a tick's record starts, but not past the end: 48 times a huge number would not fit.
-fn start(length: usize, tick: usize) -> usize
-    ensures { result ≡ min (48 * tick) length }
-{
-    if tick <= length / 48 {
-        48 * tick
-    } else {
-        length
     }
 }

@@ -11,7 +11,7 @@ use text::{LF, SPACE, decimal_length, has_room, put, put_byte, put_decimal};
 // The lines of one tick take no more: eight, of 20 digits, a space, two digits and an end.
 pub const ALL_LINES: usize = 192;
 
-// The line of one event; 0 is none.
+// The line of one event; 0 is none, as in the events of a tick.
 pub fn put_event(out: &mut [u8], at: usize, tick: u64, event: u8) -> usize
     ensures { Put out.old at (line_of tick event) result out.new }
 {
@@ -44,10 +44,8 @@ fn lines_length(tick: u64, events: [u8; 8]) -> usize
     ensures { result ≡ length (lines_of tick events) }
 {
     let mut all = 0;
-    let mut i = 0;
-    while i < 8 {
-        all += line_length(tick, events[i]);
-        i += 1;
+    for event in events {
+        all += line_length(tick, event);
     }
     all
 }
@@ -57,10 +55,8 @@ fn write_events(out: &mut [u8], at: usize, tick: u64, events: [u8; 8]) -> usize
     ensures { Wrote out.old at (lines_of tick events) result out.new }
 {
     let mut next = at;
-    let mut i = 0;
-    while i < 8 {
-        next = write_event(out, next, tick, events[i]);
-        i += 1;
+    for event in events {
+        next = write_event(out, next, tick, event);
     }
     next
 }

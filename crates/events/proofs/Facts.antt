@@ -1,5 +1,6 @@
 -- 63 events keep the latest 62; 0x11's mark; event time past 2^24 seconds; saved areas, and areas damaged in each way: computed.
 -- Assumes nothing.
+use Rattle.std.specs.Prelude.{Ok, Err}
 use mathlib.Core.Path.{◌≡◌, refl}
 use mathlib.Core.List.{List, [], ◌∷◌, ◌++◌}
 use Prim.Native.Nat.{ℕ, zero, suc, ◌+◌, ◌-◌, ◌%◌}
@@ -8,10 +9,9 @@ use lib.ListN.{length, take, drop, replicate}
 use Rattle.laws.specs.Fold.{shifted}
 use Rattle.events.specs.declared.Events.{Events}
 use Rattle.refusals.specs.declared.Refusal.TheVariants.{WrongArea, UsedAfterUnused, NeverRecorded}
-use Rattle.refusals.specs.declared.Outcome.{Outcome}
-use Rattle.refusals.specs.declared.Outcome.TheVariants.{Done, Refused}
-use Rattle.refusals.specs.Refusals.{first}
+use Rattle.refusals.specs.Refusals.{Outcome, Done, Refused, first}
 use Rattle.events.specs.Area.{area_length, area_of, save_rows, is_recorded, records_in, used_of, parted, load_rows, events_in, load_of}
+use Rattle.events.specs.Area.{kept_after}
 use Rattle.events.specs.Events.{capacity, event_at, time_of, number_of, latest, kept_of, new_of, no_events, add_of, sent_of, placed}
 
 -- n events, the k-th with the number k and k seconds
@@ -68,7 +68,7 @@ saved_all = (refl, refl, refl, refl)
 area : List ℕ
 area = area_of (add_of (add_of no_events 5 0x64) 6 0x02)
 
-loaded_two : load_of no_events area ≡ record { outcome = Done; events = sent_of (add_of (add_of no_events 5 0x64) 6 0x02) }
+loaded_two : load_of area ≡ Ok (sent_of (add_of (add_of no_events 5 0x64) 6 0x02))
 unfolding area area_of no_events add_of sent_of latest shifted records_in used_of parted is_recorded load_rows first load_of
 loaded_two = refl
 
@@ -92,7 +92,7 @@ saved_length = (refl, refl)
 old_area : List ℕ
 old_area = 5 ∷ 0 ∷ 0 ∷ 0x64 ∷ 6 ∷ 0 ∷ 0 ∷ 0x02 ∷ replicate 184 0xFF
 
-old_two : load_of (events 3) old_area ≡ record { outcome = Done; events = sent_of (add_of (add_of no_events 5 0x64) 6 0x02) }
+old_two : load_of old_area ≡ Ok (sent_of (add_of (add_of no_events 5 0x64) 6 0x02))
 unfolding old_area events no_events add_of sent_of shifted records_in used_of parted is_recorded load_rows first load_of
 old_two = refl
 
@@ -115,10 +115,11 @@ unfolding filled records_in parted is_recorded load_rows first load
 unknown = (refl, refl, refl, refl, refl)
 
 -- one refused leaves the list as it was, its mark too
-refused : load_of (events 3) (filled (5 ∷ 0 ∷ 0 ∷ 0x64 ∷ 6 ∷ 0 ∷ 0 ∷ 0x01 ∷ []))
-    ≡ record { outcome = Refused NeverRecorded; events = events 3 }
+refused :
+    let loaded = load_of (filled (5 ∷ 0 ∷ 0 ∷ 0x64 ∷ 6 ∷ 0 ∷ 0 ∷ 0x01 ∷ [])) in
+    (loaded ≡ Err NeverRecorded) × (kept_after (events 3) loaded ≡ events 3)
 unfolding filled events no_events add_of shifted records_in parted is_recorded load_rows first load_of
-refused = refl
+refused = (refl, refl)
 
 -- that the kept events have recorded numbers is needed: a list with event 0x01 is saved, and its area is refused
 needed : load (area_of (add_of no_events 5 0x01)) ≡ Refused NeverRecorded

@@ -1,3 +1,4 @@
+pub mod Moved
 pub mod Counts
 pub mod Records
 pub mod Saved

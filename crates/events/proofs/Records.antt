@@ -1,14 +1,13 @@
 -- Records in an area: put one by one, read by their place, counted up to the first unused one, and copied into the last places. The
 -- capacity is 62; no proof here uses which number it is. Assumes nothing.
 use mathlib.Core.Path.{◌≡◌, refl, sym, ap, ap₂, ◌∙◌}
-use mathlib.Core.Bool.{Bool, true, false, ◌||◌, not, cond, or-false, or_assoc}
+use mathlib.Core.Bool.{Bool, true, false, not, cond}
 use mathlib.Core.List.{List, [], ◌∷◌, ◌++◌, append_assoc, append-nil}
 use Prim.Native.Nat.{ℕ, zero, suc, ◌+◌, ◌*◌, ◌-◌, ◌≤◌, ◌<◌}
 use native.Mathlib.Nat.{not-suc-le-zero, add-zero, zero-add}
 use native.Mathlib.Numerals.{add-one}
 use native.Mathlib.Omega.{arith}
 use borrow.Author.Tests.{not-true, not-false}
-use lib.Dec.{eqb}
 use lib.ListN.{length, take, drop, get_or, set, replicate, length-append, length-drop, length-replicate, replicate-append-replicate}
 use lib.ListN.{drop_of_length-le, get_or-replicate, get_or-append}
 use lib.Seq.{sets, sets-eq, length-sets, take-suc, take_all, take_at, drop-append-add, drop-drop, drop-cons, get_or-append-add}
@@ -18,13 +17,12 @@ use Rattle.laws.proofs.Lists.{each_more}
 use Rattle.numbers.specs.Numbers.{low_first_or, le32, Wrote}
 use Rattle.numbers.proofs.Writing.{in_parts}
 use Rattle.refusals.specs.declared.Refusal.TheVariants.{WrongArea, UsedAfterUnused, NeverRecorded}
-use Rattle.refusals.specs.declared.Outcome.TheVariants.{Done}
-use Rattle.refusals.specs.Refusals.{first}
+use Rattle.refusals.specs.Refusals.{Done, first}
 use Rattle.events.specs.declared.Event.{Event}
 use Rattle.events.specs.declared.Events.{Events}
 use Rattle.events.specs.Events.{capacity, no_event, latest, kept_count, kept_of, placed}
 use Rattle.events.specs.Area.{area_length, neither_area, record_of, no_record, used, saved_of, area_of, save_rows, Saves}
-use Rattle.events.specs.Area.{recorded_numbers, is_in, is_recorded, records_at, records_in, used_of, parted, never_recorded, record_rows}
+use Rattle.events.specs.Area.{records_at, records_in, used_of, parted, never_recorded, record_rows}
 use Rattle.events.specs.Area.{load_rows, list_of, events_in}
 
 -- ---- the records that are saved
@@ -129,21 +127,6 @@ module _ (area : List ℕ) where
   unfolding records_in
   read {i} {n} h e =
       (λ j. record { bytes = e j }) ∙ sym (at_place 0 capacity i h ∙ ap record_at (let z : 0 + 4 * i ≡ 4 * i = omega arith in z))
-
--- ---- the numbers that are recorded: one test for each
-
-unfoldable pub tested : ℕ → Bool → List ℕ → Bool
-tested n t [] = t
-tested n t (m ∷ ms) = tested n (t || eqb n m) ms
-
-each_tested : (n : ℕ) (t : Bool) (ms : List ℕ) → tested n t ms ≡ (t || is_in n ms)
-unfolding tested
-each_tested n t [] = sym (or-false t)
-each_tested n t (m ∷ ms) = each_tested n (t || eqb n m) ms ∙ or_assoc t (eqb n m) (is_in n ms)
-
-pub all_tested : (n : ℕ) → tested n (eqb n (get_or recorded_numbers 0 0)) (drop 1 recorded_numbers) ≡ is_recorded n
-unfolding is_recorded
-all_tested n = each_tested n (eqb n (get_or recorded_numbers 0 0)) (drop 1 recorded_numbers)
 
 -- ---- up to the first unused one
 

@@ -1,6 +1,7 @@
 -- A save followed by a load gives the same list with everything marked as sent, if the kept events have numbers that the board records; and
 -- a load followed by a save gives the area back. An old area loads as the area it makes with unused records after it, and what was saved
 -- into it is loaded. Of the capacity, 62, they use that it is at least 48. Assumes nothing.
+use Rattle.std.specs.Prelude.{Ok}
 use mathlib.Core.Path.{◌≡◌, refl, sym, ap, ap₂, ◌∙◌, subst⁻¹}
 use mathlib.Core.Bool.{Bool, true, false, ◌&&◌, not, cond, false≢true}
 use mathlib.Core.List.{List, [], ◌∷◌, ◌++◌, append_assoc, append-nil}
@@ -18,14 +19,13 @@ use Rattle.laws.proofs.Looking.{none_first, none_after}
 use Rattle.numbers.specs.Numbers.{low_first_or}
 use Rattle.numbers.proofs.ReadBack.{stands, writes_back}
 use Rattle.refusals.specs.declared.Refusal.TheVariants.{WrongArea, UsedAfterUnused, NeverRecorded}
-use Rattle.refusals.specs.declared.Outcome.{Outcome}
-use Rattle.refusals.specs.declared.Outcome.TheVariants.{Done}
-use Rattle.refusals.specs.Refusals.{is_done, first}
+use Rattle.refusals.specs.Refusals.{Outcome, Done, is_done, first, giving}
 use Rattle.refusals.proofs.Rows.{off}
 use Rattle.events.specs.declared.Event.{Event}
 use Rattle.events.specs.declared.Events.{Events}
 use Rattle.events.specs.Events.{capacity, number_of, no_event, latest, kept_of, new_of}
 use Rattle.events.specs.Area.{area_length, old_length, neither_area, record_of, no_record, used, saved_of, area_of, records_at, records_in}
+use Rattle.events.specs.Area.{kept_after}
 use Rattle.events.specs.Area.{used_of, parted, is_recorded, never_recorded, record_rows, load_rows, list_of, events_in, load_of}
 use Rattle.events.proofs.Records.{length_kept, length_saved, length_each, length_in, record_bytes, used_first, by_records}
 
@@ -212,9 +212,9 @@ module _ (ks : List Event) (m : ℕ) (few : length ks + m ≤ capacity) (recorde
   done h = by_records bytes h ∙ ap₂ (λ (t u : Bool). first ((UsedAfterUnused, t) ∷ (NeverRecorded, u) ∷ [])) read.1 read.2
 
   -- the same list, and nothing is new, whatever list it replaces
-  pub loads : neither_area (length bytes) ≡ false → (f : Events) → load_of f bytes ≡ record { outcome = Done; events = list_of ks }
+  pub loads : neither_area (length bytes) ≡ false → load_of bytes ≡ Ok (list_of ks)
   unfolding load_of
-  loads h f = rw (done h, read.0)
+  loads h = rw (done h, read.0)
 
 -- ---- a save followed by a load
 
@@ -224,10 +224,10 @@ module _ (e : Events) (long : length e.list ≡ capacity) (recorded : any unreco
   length_area = length_each (saved_of e) ∙ ap (λ (n : ℕ). 4 * n) (length_saved e long)
 
   -- the same list, and nothing is new, whatever list it replaces
-  pub save_load : (f : Events) → load_of f (area_of e) ≡ record { outcome = Done; events = list_of (kept_of e) }
+  pub save_load : load_of (area_of e) ≡ Ok (list_of (kept_of e))
   unfolding area_of
-  save_load f =
-      let n = length_kept e long in loads (kept_of e) (capacity - length (kept_of e)) (omega arith) recorded (ap neither_area length_area) f
+  save_load =
+      let n = length_kept e long in loads (kept_of e) (capacity - length (kept_of e)) (omega arith) recorded (ap neither_area length_area)
 
   pub same_kept : kept_of (list_of (kept_of e)) ≡ kept_of e
   same_kept = listed_kept (kept_of e) (let n = length_kept e long in omega arith)
@@ -238,10 +238,9 @@ module _ (e : Events) (long : length e.list ≡ capacity) (recorded : any unreco
 -- ---- an old area
 
 -- it loads as the 248 bytes it makes with 14 unused records after it
-pub old_loads : (f : Events) (old : List ℕ) → length old ≡ old_length
-    → load_of f old ≡ load_of f (old ++ replicate (area_length - old_length) 0xFF)
+pub old_loads : (old : List ℕ) → length old ≡ old_length → load_of old ≡ load_of (old ++ replicate (area_length - old_length) 0xFF)
 unfolding load_of
-old_loads f old h =
+old_loads old h =
     let whole = old ++ replicate (area_length - old_length) 0xFF in
     let same = sym (unused_after old (area_length - old_length)) in
     let long : length whole ≡ area_length = simp (length-append, length-replicate) (omega arith) in
@@ -249,16 +248,16 @@ old_loads f old h =
     by_records old (ap neither_area h)
     ∙ ap (λ (rs : List Event). first (record_rows rs)) same
     ∙ sym (by_records whole (ap neither_area long)) in
-    λ i. record { outcome = outcome i; events = cond (is_done (outcome i)) (list_of (used_of (same i))) f }
+    λ i. giving (outcome i) (list_of (used_of (same i)))
 
 -- what the board of 48 saved of at most 48 events loads as these
 pub old_save_load : (es : List Event) → length es ≤ 48 → any unrecorded es ≡ false
-    → (f : Events) → load_of f (each record_of (es ++ replicate (48 - length es) no_record)) ≡ record { outcome = Done; events = list_of es }
-old_save_load es few recorded f =
+    → load_of (each record_of (es ++ replicate (48 - length es) no_record)) ≡ Ok (list_of es)
+old_save_load es few recorded =
     let m = 48 - length es in
     let many : length (es ++ replicate m no_record) ≡ 48 = simp (length-append, length-replicate) (omega arith) in
     let long = length_each (es ++ replicate m no_record) ∙ ap (λ (n : ℕ). 4 * n) many in
-    loads es m (omega arith) recorded (ap neither_area long) f
+    loads es m (omega arith) recorded (ap neither_area long)
 
 -- ---- a load followed by a save
 
@@ -297,11 +296,11 @@ module _ (area : List ℕ) (done : first (load_rows area) ≡ Done) where
   long_whole : length (whole_of area) ≡ area_length
   long_whole = let n = accepted.0 in simp (length-append, length-replicate) (omega arith)
 
-  pub load_save : Bytes area → (f : Events) → area_of (load_of f area).events ≡ whole_of area
+  pub load_save : Bytes area → (f : Events) → area_of (kept_after f (load_of area)) ≡ whole_of area
   unfolding area_of load_of
   load_save b f =
       let es = events_in area in
-      ap (λ (o : Outcome). area_of (cond (is_done o) (list_of es) f)) done
+      ap (λ (o : Outcome). area_of (kept_after f (giving o (list_of es)))) done
       ∙ ap (λ (ks : List Event). each record_of (ks ++ replicate (capacity - length ks) no_record)) (listed_kept es (few_events area))
       ∙ ap (λ (n : ℕ). each record_of (es ++ replicate (n - length es) no_record)) (sym (length_in area))
       ∙ ap (each record_of) (unused_rest (records_in area) accepted.1)

@@ -1,15 +1,14 @@
 -- Events in the pack's memory (W-205 and W-207 of document 02): the list in a lent area of records of 4 bytes, no header: the three time
 -- bytes and the event number, oldest first, unused records all 0xFF. Assumes nothing.
-use Rattle.std.specs.Prelude.{Bool, false, ◌&&◌, ◌||◌, not, cond, List, [], ◌∷◌, ◌++◌, ◌≡◌, ℕ, zero, suc, ◌+◌, ◌*◌, ◌-◌, eqb, length, replicate}
+use Rattle.std.specs.Prelude.{Bool, false, ◌&&◌, ◌||◌, not, cond, List, [], ◌∷◌, ◌++◌, ◌≡◌, ℕ, zero, suc, ◌+◌, ◌*◌, ◌-◌, eqb, length}
+use Rattle.std.specs.Prelude.{replicate, Result, Ok, Err}
 use Rattle.laws.specs.History.{each, any}
 use Rattle.numbers.specs.Numbers.{low_first, low_first_or}
 use Rattle.refusals.specs.declared.Refusal.{Refusal}
 use Rattle.refusals.specs.declared.Refusal.TheVariants.{WrongArea, UsedAfterUnused, NeverRecorded}
-use Rattle.refusals.specs.declared.Outcome.{Outcome}
-use Rattle.refusals.specs.Refusals.{is_done, first}
+use Rattle.refusals.specs.Refusals.{Outcome, is_done, first, giving}
 use Rattle.events.specs.declared.Event.{Event}
 use Rattle.events.specs.declared.Events.{Events}
-use Rattle.events.specs.declared.Loaded.{Loaded}
 use Rattle.events.specs.Events.{capacity, time_of, number_of, no_event, kept_of}
 
 -- the saved area becomes 248 bytes: a record of 4 bytes for each
@@ -106,6 +105,11 @@ list_of es = record { list = replicate (capacity - length es) no_event ++ es; ke
 abbrev pub events_in : List ℕ → List Event
 events_in area = used_of (records_in area)
 
--- a load replaces the list; one that is refused leaves it as it was
-unfoldable pub load_of : Events → List ℕ → Loaded
-load_of e area = record { outcome = first (load_rows area); events = cond (is_done (first (load_rows area))) (list_of (events_in area)) e }
+-- a load gives the list that replaces these events
+unfoldable pub load_of : List ℕ → Result Events Refusal
+load_of area = giving (first (load_rows area)) (list_of (events_in area))
+
+-- one that is refused leaves them as they were
+abbrev pub kept_after : Events → Result Events Refusal → Events
+kept_after e (Ok loaded) = loaded
+kept_after e (Err refusal) = e

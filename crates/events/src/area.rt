@@ -5,45 +5,34 @@ ghost use Rattle.refusals.specs.Refusals.{first};
 ghost use Rattle.events.specs.Events.{capacity, placed};
 ghost use Rattle.events.specs.Area.{used, saved_of, Saves, records_in, is_recorded, never_recorded, load_rows, list_of, events_in, load_of};
 
-use crate::{AREA, CAPACITY, Event, Events, Loaded};
+use crate::{AREA, CAPACITY, Event, Events};
 use numbers::{low_first_32_or, put_low_first_32};
-use refusals::{Outcome, Refusal};
+use refusals::Refusal;
 
 // How many bytes the area had when 48 events were kept; such an area is still loaded.
 const OLD_AREA: usize = 192;
 
 impl Events {
     // Every record of the area; nothing written where it is refused. Nothing is marked.
-    pub fn save(self, area: &mut [u8]) -> Outcome
+    pub fn save(self, area: &mut [u8]) -> Result<(), Refusal>
         ensures { Saves self area.old result area.new }
     {
         if area.len() != AREA {
-            return Outcome::Refused(Refusal::WrongArea);
+            return Err(Refusal::WrongArea);
         }
-        let mut i = 0;
-        while i < CAPACITY {
+        for i in 0..CAPACITY {
             put_low_first_32(area, 4 * i, self.record_at(i).bytes);
-            i += 1;
         }
-        Outcome::Done
+        Ok(())
     }
 
-    // The events of the area in the place of these, all of them sent; refused, these as they were.
+    // The events of the area, all of them sent.
     #[tactic(auto, unfolding(crate::specs::Area::load_of))]
-    pub fn load(self, area: &[u8]) -> Loaded
-        ensures { result ≡ load_of self area.now }
+    pub fn load(area: &[u8]) -> Result<Events, Refusal>
+        ensures { result ≡ load_of area.now }
     {
-        let outcome = judged(area);
-        if !outcome.is_done() {
-            return Loaded {
-                outcome,
-                events: self,
-            };
-        }
-        Loaded {
-            outcome,
-            events: list_in(area),
-        }
+        judged(area)?;
+        Ok(list_in(area))
     }
 
     // The i-th record of a saved list: a kept event, or none.
@@ -75,25 +64,28 @@ impl Event {
 }
 
 // The table's numbers, at latching and at recovery, and the charger's two.
+#[tactic(auto, unfolding(crate::specs::Area::is_recorded))]
 fn is_recorded(number: u8) -> bool
     ensures { result ≡ is_recorded number }
 {
-    (number == 0x02)
-        | (number == 0x7B)
-        | (number == 0x03)
-        | (number == 0x79)
-        | (number == 0x04)
-        | (number == 0x73)
-        | (number == 0x05)
-        | (number == 0x77)
-        | (number == 0x06)
-        | (number == 0x76)
-        | (number == 0x07)
-        | (number == 0x78)
-        | (number == 0x37)
-        | (number == 0x74)
-        | (number == 0x64)
-        | (number == 0x65)
+    matches!(
+        number,
+        0x02 | 0x7B
+            | 0x03
+            | 0x79
+            | 0x04
+            | 0x73
+            | 0x05
+            | 0x77
+            | 0x06
+            | 0x76
+            | 0x07
+            | 0x78
+            | 0x37
+            | 0x74
+            | 0x64
+            | 0x65
+    )
 }
 
 // The i-th record of an area; past the end 0xFF: an old area has unused records after its own.
@@ -111,14 +103,12 @@ fn record_in(area: &[u8], i: usize) -> Event
 fn used_count(area: &[u8]) -> usize
     ensures { (result ≡ length (events_in area.now)) × (result ≤ capacity) }
 {
-    let mut i = 0;
-    while i < CAPACITY {
+    for i in 0..CAPACITY {
         if !record_in(area, i).is_used() {
             return i;
         }
-        i += 1;
     }
-    i
+    CAPACITY
 }
 
 // Is one of the records used, from a place on?
@@ -126,12 +116,10 @@ fn is_used_from(area: &[u8], from: usize) -> bool
     requires { from ≤ capacity }
     ensures { result ≡ any used (drop from (records_in area.now)) }
 {
-    let mut i = from;
-    while i < CAPACITY {
+    for i in from..CAPACITY {
         if record_in(area, i).is_used() {
             return true;
         }
-        i += 1;
     }
     false
 }
@@ -140,30 +128,28 @@ fn is_used_from(area: &[u8], from: usize) -> bool
 fn has_never_recorded(area: &[u8]) -> bool
     ensures { result ≡ any never_recorded (records_in area.now) }
 {
-    let mut i = 0;
-    while i < CAPACITY {
+    for i in 0..CAPACITY {
         if record_in(area, i).is_never_recorded() {
             return true;
         }
-        i += 1;
     }
     false
 }
 
 // The first of the rows that applies.
-fn judged(area: &[u8]) -> Outcome
+fn judged(area: &[u8]) -> Result<(), Refusal>
     ensures { result ≡ first (load_rows area.now) }
 {
     if (area.len() != AREA) & (area.len() != OLD_AREA) {
-        return Outcome::Refused(Refusal::WrongArea);
+        return Err(Refusal::WrongArea);
     }
     if is_used_from(area, used_count(area)) {
-        return Outcome::Refused(Refusal::UsedAfterUnused);
+        return Err(Refusal::UsedAfterUnused);
     }
     if has_never_recorded(area) {
-        return Outcome::Refused(Refusal::NeverRecorded);
+        return Err(Refusal::NeverRecorded);
     }
-    Outcome::Done
+    Ok(())
 }
 
 // The used records in the last places, none of them new.
@@ -172,10 +158,8 @@ fn list_in(area: &[u8]) -> Events
 {
     let count = used_count(area);
     let mut list = [Event { bytes: 0 }; CAPACITY];
-    let mut i = 0;
-    while i < count {
+    for i in 0..count {
         list[CAPACITY - count + i] = record_in(area, i);
-        i += 1;
     }
     Events {
         list,

@@ -8,9 +8,6 @@ ghost use Rattle.events.specs.Events.{capacity, event_at, time_of, number_of, ke
 ghost use Rattle.laws.specs.Row.{row};
 ghost use Rattle.numbers.specs.Numbers.{half_at};
 
-use numbers::lesser;
-use refusals::Outcome;
-
 // How many events are kept.
 pub const CAPACITY: usize = 62;
 
@@ -28,6 +25,7 @@ pub struct Event {
 }
 
 // The places that are used are the last ones: `kept` of them, of which the last `unsent` are new.
+// C holds it by its fields, so the list is an array with its counts beside it.
 #[repr(C)]
 #[derive(Clone, Copy)]
 pub struct Events {
@@ -36,14 +34,8 @@ pub struct Events {
     pub unsent: u8,
 }
 
-// What a load comes to, and the events after it.
-#[derive(Clone, Copy)]
-pub struct Loaded {
-    pub outcome: Outcome,
-    pub events: Events,
-}
-
 impl Events {
+    #[tactic(auto, unfolding(crate::specs::Events::no_events))]
     pub fn none() -> Events
         ensures { result ≡ no_events }
     {
@@ -55,15 +47,12 @@ impl Events {
     }
 
     // One event more; the oldest goes where there is no place for it.
+    #[tactic(auto, unfolding(crate::specs::Events::add_of, laws::specs::Fold::shifted))]
     pub fn add(self, seconds: u32, number: u8) -> Events
         ensures { result ≡ add_of self seconds number }
     {
         let mut list = self.list;
-        let mut i = 0;
-        while i < CAPACITY - 1 {
-            list[i] = list[i + 1];
-            i += 1;
-        }
+        list.copy_within(1.., 0);
         list[CAPACITY - 1] = Event::at(seconds, number);
         let kept = one_more(self.kept);
         let unsent = one_more(self.unsent);
@@ -71,6 +60,7 @@ impl Events {
     }
 
     // Nothing is new any more.
+    #[tactic(auto, unfolding(crate::specs::Events::sent_of))]
     pub fn sent(mut self) -> Events
         ensures { result ≡ sent_of self }
     {
@@ -82,14 +72,14 @@ impl Events {
     pub fn kept_count(self) -> u8
         ensures { (result ≡ kept_count self) × (result ≤ capacity) }
     {
-        lesser(CAPACITY, self.kept as usize) as u8
+        self.kept.min(CAPACITY as u8)
     }
 
     // How many are new.
     pub fn new_count(self) -> u8
         ensures { (result ≡ new_count self) × (result ≤ capacity) }
     {
-        lesser(self.kept_count() as usize, self.unsent as usize) as u8
+        self.kept_count().min(self.unsent)
     }
 
     // The n-th that is kept, from 0, oldest first; no event where there is none.
@@ -128,29 +118,21 @@ impl Events {
         let first = from_end(kept);
         let count = numbers::up_to_127(count);
         let mut words = [0; WORDS];
-        let mut i: u16 = 0;
-        while i < count {
-            let at = first + (one_less(i / 2) as usize);
-            let mut event = Event { bytes: 0 };
-            if at < CAPACITY {
-                event = list[at];
-            }
+        for i in 0..count {
+            // The lifetime stands before the events.
+            let at = first + ((i / 2).saturating_sub(1) as usize);
+            let event = list.get(at).copied().unwrap_or(Event { bytes: 0 });
             words[i as usize] = numbers::half(long(lifetime, event, i / 2), i);
-            i += 1;
         }
         words
     }
 
+    #[tactic(auto, unfolding(crate::specs::Events::latest))]
     fn latest_at(self, count: u8, n: u16) -> Event
         ensures { result ≡ placed (latest count self) n }
     {
         let at = from_end(count) + (n as usize);
-        if at < CAPACITY {
-            let list = self.list;
-            list[at]
-        } else {
-            Event { bytes: 0 }
-        }
+        self.list.get(at).copied().unwrap_or(Event { bytes: 0 })
     }
 }
 
@@ -184,31 +166,15 @@ fn long(lifetime: u32, event: Event, k: u16) -> u32
     if k == 0 { lifetime } else { event.bytes }
 }
 
-// The place of an event among the events, where the lifetime stands before them.
-fn one_less(k: u16) -> u16
-    ensures { result ≡ k - 1 }
-{
-    if k == 0 { 0 } else { k - 1 }
-}
-
 fn one_more(n: u8) -> u8
     ensures { result ≡ min capacity (n + 1) }
 {
-    if (n as usize) < CAPACITY {
-        n + 1
-    } else {
-        CAPACITY as u8
-    }
+    n.saturating_add(1).min(CAPACITY as u8)
 }
 
 // Where the latest `count` begin.
 fn from_end(count: u8) -> usize
     ensures { (result ≡ capacity - count) × (result ≤ capacity) }
 {
-    let count = count as usize;
-    if count < CAPACITY {
-        CAPACITY - count
-    } else {
-        0
-    }
+    CAPACITY.saturating_sub(count as usize)
 }

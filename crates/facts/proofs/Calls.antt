@@ -1,14 +1,13 @@
 -- Says nothing: the calls that wrong boards and needed hypotheses are put to, and what is looked at in their answers.
 -- Assumes nothing.
+use Rattle.std.specs.Prelude.{Option}
 use mathlib.Core.Bool.{Bool, false}
 use mathlib.Core.List.{List, [], ◌∷◌}
 use Prim.Native.Nat.{ℕ}
 use lib.IntN.{ℤ, pos, negsuc}
 use lib.ListN.{get_or, replicate}
-use Rattle.refusals.specs.declared.Outcome.{Outcome}
-use Rattle.refusals.specs.declared.Outcome.TheVariants.{Done}
+use Rattle.refusals.specs.Refusals.{Outcome, Done}
 use Rattle.readings.specs.declared.Readings.{Readings}
-use Rattle.answers.specs.declared.Shown.{Shown}
 use Rattle.answers.specs.Registers.{shown_at}
 use Rattle.board.specs.declared.Board.{Board}
 use Rattle.board.specs.Calls.{Call, Seen, tick, frame, handover}
@@ -106,5 +105,5 @@ abbrev pub byte_at : ℕ → ℕ → List Seen → ℕ
 byte_at n i answers = get_or (answer_at n answers).buffer i 0
 
 -- a register of a board
-abbrev pub shown_by : Board → ℕ → Shown
+abbrev pub shown_by : Board → ℕ → Option ℕ
 shown_by b at = shown_at b.pack b.hire at

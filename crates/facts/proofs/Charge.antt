@@ -3,6 +3,7 @@
 -- every board that meets demand 2, and a board that shows a sum in its replies fails it. "And start at zero for the next rider": the record
 -- of a handover is that of the ticks since the handover before it, whatever came earlier.
 -- Assumes nothing.
+use Rattle.std.specs.Prelude.{Err, Ok}
 use mathlib.Core.Path.{◌≡◌, refl, sym, ap, ◌∙◌}
 use mathlib.Core.Bool.{Bool, true, false, ◌&&◌, not, cond, false≢true}
 use mathlib.Core.List.{List, [], ◌∷◌, ◌++◌}
@@ -14,8 +15,7 @@ use Rattle.laws.specs.History.{never, each, since, from, any, sum}
 use Rattle.guard.specs.declared.Condition.TheVariants.{UV, OV, OT, DOC, COC, ROC}
 use Rattle.refusals.specs.declared.Refusal.{Refusal}
 use Rattle.refusals.specs.declared.Refusal.TheVariants.{NoBoard}
-use Rattle.refusals.specs.declared.Outcome.{Outcome}
-use Rattle.refusals.specs.Refusals.{is_done, first}
+use Rattle.refusals.specs.Refusals.{Outcome, is_done, first}
 use Rattle.signed.specs.Signed.{above, below}
 use Rattle.readings.specs.declared.Readings.{Readings}
 use Rattle.desk.specs.declared.Record.{Record}
@@ -23,9 +23,8 @@ use Rattle.statistics.specs.declared.Sums.{Sums}
 use Rattle.statistics.specs.Statistics as statistics
 use Rattle.requests.specs.declared.Query.{Query}
 use Rattle.requests.specs.declared.Query.TheVariants.{Registers, Listed, Bare, NewEvents, AllEvents, Temperatures, Cells, SettingsOf}
-use Rattle.requests.specs.declared.Request.{Request}
 use Rattle.requests.specs.declared.Request.TheVariants as request
-use Rattle.requests.specs.Requests.{request_of, marks}
+use Rattle.requests.specs.Requests.{request_of, marks, Asked}
 use Rattle.replies.specs.Replies.{sealed}
 use Rattle.hire.specs.Hire.{new_hire}
 use Rattle.hire.specs.Registers.{reading_register}
@@ -104,28 +103,28 @@ module _ (b : Board) (x : Sums) where
   bodies s Cells = refl
   bodies s (SettingsOf kind n) = refl
 
-  request_reply : (s : List ℕ) (q : Request)
+  request_reply : (s : List ℕ) (q : Asked)
       → accepted_reply b.pack (with_sums b x).hire s q ≡ accepted_reply b.pack b.hire s q
   unfolding accepted_reply
-  request_reply s (request.Refused refusal) = refl
-  request_reply s request.ClearEvents = refl
-  request_reply s request.ClearStatistics = refl
-  request_reply s (request.Write f n) = refl
-  request_reply s (request.Read q) = ap sealed (bodies s q)
+  request_reply s (Err refusal) = refl
+  request_reply s (Ok request.ClearEvents) = refl
+  request_reply s (Ok request.ClearStatistics) = refl
+  request_reply s (Ok (request.Write f n)) = refl
+  request_reply s (Ok (request.Read q)) = ap sealed (bodies s q)
 
   -- what an accepted request changes, and the sums after it
-  record Changes (s : List ℕ) (q : Request) : Type 0 where
+  record Changes (s : List ℕ) (q : Asked) : Type 0 where
     sums : Sums
     changed : changed_by (with_sums b x) s q ≡ with_sums (changed_by b s q) sums
     fresh : any clears (asked_deeds s q) ≡ true → with_sums (changed_by b s q) sums ≡ changed_by b s q
 
-  changes : (s : List ℕ) (q : Request) → Changes s q
+  changes : (s : List ℕ) (q : Asked) → Changes s q
   unfolding changed_by asked_deeds statistics.cleared_at no_sums
-  changes s (request.Refused refusal) = record { sums = x; changed = refl; fresh = λ e. absurd (false≢true e) }
-  changes s request.ClearEvents = record { sums = x; changed = refl; fresh = λ e. absurd (false≢true e) }
-  changes s request.ClearStatistics = record { sums = no_sums; changed = refl; fresh = λ e. refl }
-  changes s (request.Write f n) = record { sums = x; changed = refl; fresh = λ e. absurd (false≢true e) }
-  changes s (request.Read q) = record { sums = x; changed = refl; fresh = λ e. absurd (false≢true (go (marks q) e)) }
+  changes s (Err refusal) = record { sums = x; changed = refl; fresh = λ e. absurd (false≢true e) }
+  changes s (Ok request.ClearEvents) = record { sums = x; changed = refl; fresh = λ e. absurd (false≢true e) }
+  changes s (Ok request.ClearStatistics) = record { sums = no_sums; changed = refl; fresh = λ e. refl }
+  changes s (Ok (request.Write f n)) = record { sums = x; changed = refl; fresh = λ e. absurd (false≢true e) }
+  changes s (Ok (request.Read q)) = record { sums = x; changed = refl; fresh = λ e. absurd (false≢true (go (marks q) e)) }
     where
       go : (t : Bool) → any clears (cond t (sent ∷ []) []) ≡ true → false ≡ true
       go true e = e

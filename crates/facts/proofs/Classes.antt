@@ -2,21 +2,21 @@
 -- no switch, latch, wait or statistic. What a board that a start reaches keeps, any usable board recalls as it was kept. (The laws of the
 -- store itself: crate `classes`, specs/Laws.)
 -- Assumes nothing.
+use Rattle.refusals.specs.declared.Refusal.{Refusal}
+use Rattle.refusals.proofs.Rows.{come_to_giving, gives_value}
+use Rattle.std.specs.Prelude.{Ok, Result}
 use mathlib.Core.Path.{◌≡◌, refl, sym, ap, ◌∙◌, subst⁻¹}
 use mathlib.Core.Bool.{true, cond}
 use mathlib.Core.List.{List, [], ◌∷◌, reverse}
 use Prim.Native.Nat.{ℕ}
-use Rattle.refusals.specs.declared.Outcome.{Outcome}
-use Rattle.refusals.specs.declared.Outcome.TheVariants.{Done}
-use Rattle.refusals.specs.Refusals.{is_done, first}
+use Rattle.refusals.specs.Refusals.{Outcome, Done, is_done, first, come_to}
 use Rattle.settings.specs.declared.Settings.{Settings}
-use Rattle.settings.specs.declared.Written.{Written}
 use Rattle.settings.specs.Settings as settings
 use Rattle.settings.proofs.Drafts as drafts
 use Rattle.writes.specs.declared.Form.TheVariants as form
 use Rattle.writes.specs.declared.Pair.{Pair}
 use Rattle.writes.specs.Writes.{pairs_of, drafted_of}
-use Rattle.classes.specs.Store.{editions_in, keep_rows, kept_store, kept_by, Keeps, pairs_for, recall_of}
+use Rattle.classes.specs.Store.{editions_in, keep_rows, kept_store, Keeps, pairs_for, recall_of}
 use Rattle.editions.specs.Editions.{next_edition}
 use native.Mathlib.Omega.{arith}
 use Rattle.classes.specs.Laws.{list_request}
@@ -50,11 +50,11 @@ module _ (b : Board) (store : List ℕ) (edition : ℕ) (accepted : outcome_in b
   same_pairs = (laws.one_request _).written
 
   -- the board after it is what that request changes it to, and the history has the request's deed
-  pub a_write : board_after b (recall store edition) ≡ changed_by b s (request.Write form.List 12)
+  pub a_write : board_after b (recall store edition) ≡ changed_by b s (Ok (request.Write form.List 12))
   unfolding changed_by
   a_write = recalled ∙ ap (changes.written b) (sym same_pairs)
 
-  pub a_deed : (shape (recall store edition)).deeds b ≡ asked_deeds s (request.Write form.List 12)
+  pub a_deed : (shape (recall store edition)).deeds b ≡ asked_deeds s (Ok (request.Write form.List 12))
   unfolding shape asked_deeds
   a_deed = ap (λ (ps : List Pair). wrote ps ∷ []) (sym same_pairs)
 
@@ -124,24 +124,24 @@ module _ (cells per_km : ℕ) (cs : List Call) (store : List ℕ) (other : Board
   pub kept_then_recalled : outcome_in now (keep store) ≡ Done → usable other ≡ true
       → (outcome_in other (recall after edition) ≡ Done)
       × (board_after other (recall after edition) ≡ with_settings other now.pack.settings)
-  unfolding shape seen_of recall_of
+  unfolding shape seen_of recall_of settings.standing_of
   kept_then_recalled done some =
       let standing = other.pack.settings in
       let rows : first (keep_rows store) ≡ Done = (is_done_lem now (shape (keep store)) done).1 in
-      let keeps : Keeps mine store (kept_by store) (kept_store store mine) = record {
-        gives = refl;
+      let new : ℕ = next_edition (editions_in store) in
+      let keeps : Keeps mine store (Ok new) (kept_store store mine) = record {
+        gives = gives_value new (sym rows);
         store = sym (ap (λ (o : Outcome). cond (is_done o) (kept_store store mine) store) rows);
       } in
       let the-store : after ≡ kept_store store mine = ap (λ (o : Outcome). cond (is_done o) (kept_store store mine) []) done in
-      let the-edition : edition ≡ (kept_by store).edition =
-      ap (λ (o : Outcome). cond (is_done o) (next_edition (editions_in store)) 0) (done ∙ sym rows) in
-      let found : recall_of standing after edition ≡ record { outcome = Done; settings = mine } =
+      let the-edition : edition ≡ new = ap (λ (o : Outcome). cond (is_done o) new 0) done in
+      let found : recall_of standing after edition ≡ Ok mine =
       (λ i. recall_of standing (the-store i) (the-edition i))
-      ∙ (laws.keeping mine store (kept_by store) (kept_store store mine) keeps rows).recalled standing mine_judged mine_held in
+      ∙ (laws.keeping mine store new (kept_store store mine) keeps).recalled standing mine_judged mine_held in
       let accepted : outcome_in other (recall after edition) ≡ Done =
-      by_rows other (shape (recall after edition)) some ∙ ap (λ (w : Written). w.outcome) found in
-      let one = laws.recalling standing after edition (ap (λ (w : Written). w.outcome) found) in (
+      by_rows other (shape (recall after edition)) some ∙ sym (come_to_giving _ _) ∙ ap come_to found in
+      let one = laws.recalling standing after edition (ap come_to found) in (
         accepted,
         recalled other after edition accepted
-            ∙ ap (λ (w : Written). with_settings other w.settings) (sym one ∙ found),
+            ∙ ap (λ (r : Result Settings Refusal). with_settings other (settings.standing_of standing r)) (sym one ∙ found),
       )

@@ -10,8 +10,7 @@ use Prim.Native.Nat.{ℕ}
 use native.Mathlib.Omega.{arith}
 use lib.ListN.{get_or, set, replicate}
 use Rattle.laws.specs.History.{since, each, head_or}
-use Rattle.refusals.specs.declared.Outcome.{Outcome}
-use Rattle.refusals.specs.Refusals.{is_done, first}
+use Rattle.refusals.specs.Refusals.{Outcome, is_done, first}
 use Rattle.cells.specs.Cells.{lowest_of, highest_of, sum_of}
 use Rattle.cabinet.specs.declared.Measured.{Measured}
 use Rattle.cabinet.specs.Cabinet.{measured_of, cabinet_rows, filled_of}

@@ -1,14 +1,13 @@
 -- The published examples of document 000, 1.3.1 to 1.3.3, as whole requests and whole replies: what each comes to and all 259 bytes
 -- of the reply buffer. Assumes nothing.
+use Rattle.std.specs.Prelude.{Some}
 use mathlib.Core.Path.{◌≡◌, refl}
 use mathlib.Core.Bool.{false}
 use mathlib.Core.List.{List, [], ◌∷◌, ◌++◌, map}
 use Prim.Native.Nat.{ℕ}
 use lib.IntN.{pos}
 use lib.ListN.{replicate}
-use Rattle.refusals.specs.declared.Outcome.{Outcome}
-use Rattle.refusals.specs.declared.Outcome.TheVariants.{Done}
-use Rattle.answers.specs.declared.Shown.TheVariants.{Register}
+use Rattle.refusals.specs.Refusals.{Outcome, Done}
 use Rattle.board.specs.declared.Board.{Board}
 use Rattle.board.specs.Start.{start_board}
 use Rattle.board.specs.Calls.{tick, frame, outcome_in, board_after, buffer_after}
@@ -26,8 +25,8 @@ write = 0xAA ∷ 0x10 ∷ 0x01 ∷ 0x3B ∷ 0x00 ∷ 0x02 ∷ 0x04 ∷ 0x10 ∷ 
 
 pub written :
     Gets (start_board 4 2000) write Done (0xAA ∷ 0x10 ∷ 0x01 ∷ 0x3B ∷ 0x00 ∷ 0x02 ∷ 0x28 ∷ 0x22 ∷ []) 251
-    × (map (shown_by (start_board 4 2000)) (315 ∷ 316 ∷ []) ≡ map Register (4200 ∷ 2900 ∷ []))
-    × (map (shown_by (board_after (start_board 4 2000) (frame write 259))) (315 ∷ 316 ∷ []) ≡ map Register (4200 ∷ 2500 ∷ []))
+    × (map (shown_by (start_board 4 2000)) (315 ∷ 316 ∷ []) ≡ map Some (4200 ∷ 2900 ∷ []))
+    × (map (shown_by (board_after (start_board 4 2000) (frame write 259))) (315 ∷ 316 ∷ []) ≡ map Some (4200 ∷ 2500 ∷ []))
 unfolding opened
 written = ((refl, refl), refl, refl)
 
@@ -41,7 +40,7 @@ read =
 
 -- 1.3.2: five registers from 5 on, high byte first
 pub registers :
-    (map (shown_by read) (5 ∷ 6 ∷ 7 ∷ 8 ∷ 9 ∷ []) ≡ map Register (38720 ∷ 38720 ∷ 38700 ∷ 38700 ∷ 38700 ∷ []))
+    (map (shown_by read) (5 ∷ 6 ∷ 7 ∷ 8 ∷ 9 ∷ []) ≡ map Some (38720 ∷ 38720 ∷ 38700 ∷ 38700 ∷ 38700 ∷ []))
     × Gets read (0xAA ∷ 0x03 ∷ 0x00 ∷ 0x05 ∷ 0x00 ∷ 0x05 ∷ 0x8C ∷ 0x13 ∷ []) Done
     (0xAA ∷ 0x03 ∷ 0x0A ∷ 0x97 ∷ 0x40 ∷ 0x97 ∷ 0x40 ∷ 0x97 ∷ 0x2C ∷ 0x97 ∷ 0x2C ∷ 0x97 ∷ 0x2C ∷ 0x3E ∷ 0xC7 ∷ []) 244
 unfolding opened

@@ -4,6 +4,7 @@
 -- alone goes by the calls. Numbers from outside have their machine types, which lists do not carry: where that is needed, `Typed` says it
 -- of cells and bytes, and `km_per_hour` of the pulses per km. Ends that the paper itself sets are met, and are not meant here: 62 events,
 -- the 65,535 of a count, the 2^32 - 1 of clock and distance, the byte of whole degrees. Assumes nothing.
+use Rattle.std.specs.Prelude.{Err, Ok, Option, Some, None}
 use mathlib.Core.Path.{◌≡◌, refl, sym, ap, ◌∙◌, subst, subst⁻¹}
 use mathlib.Core.Bool.{Bool, true, false, ◌&&◌, ◌||◌, cond, false≢true}
 use mathlib.Core.List.{List, [], ◌∷◌, ◌++◌, map, reverse, reverse_aux}
@@ -40,16 +41,13 @@ use Rattle.settings.proofs.Drafts as settings
 use Rattle.signed.specs.Signed.{above, below}
 use Rattle.statistics.specs.Statistics.{hundreds}
 use Rattle.refusals.specs.Refusals.{is_done}
-use Rattle.answers.specs.declared.Shown.{Shown}
-use Rattle.answers.specs.declared.Shown.TheVariants.{Register, Nothing}
 use Rattle.answers.specs.Registers.{shown_at}
 use Rattle.board.specs.declared.Board.{Board}
 use Rattle.requests.specs.declared.Query.{Query}
 use Rattle.requests.specs.declared.Query.TheVariants.{Registers, Listed, Bare, NewEvents, AllEvents, Temperatures, Cells, SettingsOf}
-use Rattle.requests.specs.declared.Request.{Request}
 use Rattle.requests.specs.declared.Request.TheVariants as request
 use Rattle.hire.specs.Hire.{no_sensed, new_hire}
-use Rattle.requests.specs.Requests.{length_of, foreign, in_one_range, request_of, address_at, marks}
+use Rattle.requests.specs.Requests.{length_of, foreign, in_one_range, request_of, address_at, marks, Asked}
 use Rattle.numbers.specs.Numbers.{be16_at, le16_at}
 use Rattle.writes.specs.declared.Form.{Form}
 use Rattle.writes.specs.declared.Form.TheVariants as form
@@ -70,7 +68,8 @@ use Rattle.board.specs.Start.{start_board}
 use Rattle.board.specs.Behaviour.{board, after_in}
 use Rattle.board.specs.Demands.{deeds, reached}
 use Rattle.board.specs.Account.{Deed, took, wrote, cleared, forgot, sent, handed, heard, fetched, loaded, row, hands, ticking}
-use Rattle.board.specs.Account.{settings_at, seconds_at, clock_at, moment_of, moments_at, latched_at, waits_at, remembered_at, sensed_of, sensed_at}
+use Rattle.board.specs.Account.{settings_at, seconds_at, clock_at, moment_of, moments_at, latched_at, waits_at, remembered_at, sensed_of}
+use Rattle.board.specs.Account.{sensed_at}
 use Rattle.board.specs.Account.{window_at, kept_since, new_since, events_at, heard_at, held_at, board_at, deeds_of}
 use Rattle.board.proofs.Account.Deeds.{Good, May, Each, Bring, after_calls, after_typed}
 use Rattle.board.proofs.Account.Shown.{newest_kept}
@@ -219,13 +218,13 @@ abbrev pub TypedDeed : Deed → Type 0
 TypedDeed d = All (λ t. All (λ c. c ≤ 65535) t.0) (row d).ticks × All Sixteen (row d).writes × Bytes (row d).hears
 
 module _ (cells per_km : ℕ) where
-  asked_typed : (s : List ℕ) → Bytes s → (q : Request) → Each cells per_km TypedDeed (asked_deeds s q)
+  asked_typed : (s : List ℕ) → Bytes s → (q : Asked) → Each cells per_km TypedDeed (asked_deeds s q)
   unfolding asked_deeds
-  asked_typed s t (request.Refused refusal) = tt
-  asked_typed s t request.ClearEvents = ((tt, tt, tt), tt)
-  asked_typed s t request.ClearStatistics = ((tt, tt, tt), tt)
-  asked_typed s t (request.Write f n) = ((tt, sixteen f s n t, tt), tt)
-  asked_typed s t (request.Read q) = go (marks q)
+  asked_typed s t (Err refusal) = tt
+  asked_typed s t (Ok request.ClearEvents) = ((tt, tt, tt), tt)
+  asked_typed s t (Ok request.ClearStatistics) = ((tt, tt, tt), tt)
+  asked_typed s t (Ok (request.Write f n)) = ((tt, sixteen f s n t, tt), tt)
+  asked_typed s t (Ok (request.Read q)) = go (marks q)
     where
       go : (t : Bool) → Each cells per_km TypedDeed (cond t (sent ∷ []) [])
       go true = ((tt, tt, tt), tt)
@@ -716,9 +715,9 @@ module _ (cells per_km : ℕ) (cs : List Call) where
 
 -- ---- the registers of a request: none is `Nothing`, and none is past the 65,535 of `value`
 
-abbrev pub shows : Shown → Bool
-shows (Register v) = true
-shows Nothing = false
+abbrev pub shows : Option ℕ → Bool
+shows (Some v) = true
+shows None = false
 
 abbrev pub Shows : Board → ℕ → Type 0
 Shows b at = (shows (shown_by b at) ≡ true) × (at ≤ 65535)
@@ -756,7 +755,7 @@ shown_in b at n i h l = go (leb (at + n) 56) (leb 100 at) (leb (at + n) 118) (le
     go false false d true false e₁ e₂ e₃ e₄ e₅ k = absurd (false≢true k)
     go false false d false g e₁ e₂ e₃ e₄ e₅ k = absurd (false≢true k)
 
-pub registers_shown : (b : Board) (s : List ℕ) (q : Query) (i : ℕ) → request_of s ≡ request.Read q → i < named_by q
+pub registers_shown : (b : Board) (s : List ℕ) (q : Query) (i : ℕ) → request_of s ≡ Ok (request.Read q) → i < named_by q
     → Shows b (register_in s q i)
 unfolding reads_in_range in_range named_by register_in
 registers_shown b s q i e l = go q (rw e at (sound s).lies_in_range) l

@@ -1,5 +1,6 @@
 -- W-209 of document 02: no payload exceeds 254, for every accepted request and every board reachable from a start; so a query is accepted
 -- wherever it is read, and number 5 is gone. Why: `answers`, Payloads, whatever a board holds. Assumes nothing.
+use Rattle.std.specs.Prelude.{Ok}
 use mathlib.Core.Path.{◌≡◌, refl, ap, ◌∙◌}
 use mathlib.Core.Bool.{Bool, true, false, ◌&&◌, ◌||◌, and-eq-true_iff}
 use mathlib.Core.List.{List, [], ◌∷◌, map}
@@ -8,8 +9,7 @@ use native.Mathlib.Omega.{arith}
 use borrow.Author.Tests.{leb-true}
 use lib.Dec.{leb, ltb}
 use lib.ListN.{get_or, replicate}
-use Rattle.refusals.specs.declared.Outcome.{Outcome}
-use Rattle.refusals.specs.declared.Outcome.TheVariants.{Done}
+use Rattle.refusals.specs.Refusals.{Outcome, Done}
 use Rattle.requests.specs.declared.Query.{Query}
 use Rattle.requests.specs.declared.Query.TheVariants.{Registers}
 use Rattle.requests.specs.declared.Request.TheVariants as request
@@ -33,14 +33,14 @@ module _ (cells per_km : ℕ) (cs : List Call) (s : List ℕ) where
   abbrev after : Board
   after = reached board cells per_km cs
 
-  pub payloads : (q : Query) → request_of s ≡ request.Read q → payload_of after.pack after.hire q ≤ 254
+  pub payloads : (q : Query) → request_of s ≡ Ok (request.Read q) → payload_of after.pack after.hire q ≤ 254
   payloads q asks = payload_most after.pack after.hire s q asks
 
   pub frames : reply_bytes after.pack after.hire (request_of s) ≤ 259
   frames = most_259 after.pack after.hire s
 
 -- a query is accepted by every usable board
-pub accepted : (b : Board) (s : List ℕ) (room : ℕ) (q : Query) → usable b ≡ true → ltb room 259 ≡ false → request_of s ≡ request.Read q
+pub accepted : (b : Board) (s : List ℕ) (room : ℕ) (q : Query) → usable b ≡ true → ltb room 259 ≡ false → request_of s ≡ Ok (request.Read q)
     → outcome_in b (frame s room) ≡ Done
 unfolding asked_outcome
 accepted b s room q some large asks = frame_whole b s room some large ∙ ap (asked_outcome b.pack s) asks
@@ -52,7 +52,7 @@ all_cells b some = let both = (and-eq-true_iff (leb 4 b.pack.cells) (leb b.pack.
 -- ---- the most that each command carries
 
 -- RL may be 127, and no range has so many registers: a block's payload is at most 200
-pub block_most : (b : Board) (s : List ℕ) (command at n : ℕ) → request_of s ≡ request.Read (Registers command at n)
+pub block_most : (b : Board) (s : List ℕ) (command at n : ℕ) → request_of s ≡ Ok (request.Read (Registers command at n))
     → payload_of b.pack b.hire (Registers command at n) ≤ 200
 unfolding payload_of reads_in_range in_range
 block_most b s command at n e =

@@ -1,13 +1,12 @@
 -- W-202, computed: whole requests of 0x07, 0x09, 0x0B and 0x0D and whole replies; and the same requests off the raw line, byte by byte.
 -- Assumes nothing.
+use Rattle.std.specs.Prelude.{Some}
 use mathlib.Core.Path.{◌≡◌, refl}
 use mathlib.Core.List.{List, [], ◌∷◌, ◌++◌, map}
 use Prim.Native.Nat.{ℕ}
 use lib.ListN.{length, replicate}
 use Rattle.refusals.specs.declared.Refusal.TheVariants.{WrongField, OutOfRange, FrameHeld}
-use Rattle.refusals.specs.declared.Outcome.{Outcome}
-use Rattle.refusals.specs.declared.Outcome.TheVariants.{Done, Refused}
-use Rattle.answers.specs.declared.Shown.TheVariants.{Register}
+use Rattle.refusals.specs.Refusals.{Outcome, Done, Refused}
 use Rattle.board.specs.declared.Board.{Board}
 use Rattle.board.specs.Start.{start_board}
 use Rattle.board.specs.Calls.{Call, frame, offer, fetch, board_after}
@@ -50,7 +49,7 @@ outside = (refl, refl)
 -- ---- writes, and what 315 and 316 show after them
 
 abbrev limits : List ℕ → List ℕ → Type 0
-limits s values = map (shown_by (board_after fresh (frame s 259))) (315 ∷ 316 ∷ []) ≡ map Register values
+limits s values = map (shown_by (board_after fresh (frame s 259))) (315 ∷ 316 ∷ []) ≡ map Some values
 
 -- 0x0B: 315 to 4200, 316 to 2500
 abbrev write : List ℕ

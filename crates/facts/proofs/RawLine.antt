@@ -14,9 +14,8 @@ use lib.Dec.{ltb}
 use lib.ListN.{length, take, drop, replicate}
 use lib.Seq.{take-append-add}
 use Rattle.refusals.specs.declared.Refusal.TheVariants.{NoRoom, FrameHeld, NoFrameHeld}
-use Rattle.refusals.specs.declared.Outcome.{Outcome}
-use Rattle.refusals.specs.declared.Outcome.TheVariants.{Done, Refused}
-use Rattle.refusals.specs.Refusals.{is_done, first}
+use Rattle.refusals.specs.Refusals.{Outcome, Done, Refused, is_done, first}
+use Rattle.std.specs.Prelude.{Ok, Err}
 use Rattle.refusals.proofs.Rows.{refused_not}
 use Rattle.receiver.specs.declared.Receiver.{Receiver}
 use Rattle.receiver.specs.Receiver.{no_bytes, held_of, is_held, taken, offered_by, offered_of}
@@ -24,9 +23,8 @@ use Rattle.receiver.specs.Line.{cut, replies_to, after, Turn, offers, fetches, L
 use Rattle.receiver.specs.Line as line
 use Rattle.receiver.proofs.Cutting.{Good, whole_frames}
 use Rattle.receiver.proofs.Cutting as cutting
-use Rattle.requests.specs.declared.Request.{Request}
 use Rattle.requests.specs.declared.Request.TheVariants as request
-use Rattle.requests.specs.Requests.{request_of}
+use Rattle.requests.specs.Requests.{request_of, Asked}
 use Rattle.replies.specs.Replies.{padded}
 use Rattle.answers.specs.Answers.{accepted_reply, asked_reply}
 use Rattle.answers.proofs.Made.{reply_length}
@@ -95,17 +93,17 @@ pub is_reply_lem : (b : Board) (s : List ℕ) → is_reply (request_outcome b s)
 is_reply_lem b s = go (request_outcome b s) (request_lost b s)
   where
     go : (o : Outcome) → ((o ≡ Done → ⊥) → lost o ≡ true) → is_reply o ≡ true
-    go Done l = refl
-    go (Refused refusal) l = l (refused_not refusal)
+    go (Ok done) l = refl
+    go (Err refusal) l = l (refused_not refusal)
 
 -- a board stays usable
-changed_usable : (b : Board) (s : List ℕ) (q : Request) → usable (changed_by b s q) ≡ usable b
+changed_usable : (b : Board) (s : List ℕ) (q : Asked) → usable (changed_by b s q) ≡ usable b
 unfolding changed_by
-changed_usable b s (request.Refused refusal) = refl
-changed_usable b s request.ClearEvents = refl
-changed_usable b s request.ClearStatistics = refl
-changed_usable b s (request.Write f n) = refl
-changed_usable b s (request.Read q) = refl
+changed_usable b s (Err refusal) = refl
+changed_usable b s (Ok request.ClearEvents) = refl
+changed_usable b s (Ok request.ClearStatistics) = refl
+changed_usable b s (Ok (request.Write f n)) = refl
+changed_usable b s (Ok (request.Read q)) = refl
 
 pub frame_usable : (b : Board) (s : List ℕ) (room : ℕ) → usable (board_after b (frame s room)) ≡ usable b
 unfolding shape board_by
@@ -148,8 +146,8 @@ module _ (b : Board) (r : Receiver) (some : usable b ≡ true) (n : ℕ) (room :
     where
       go : (o : Outcome) → ((o ≡ Done → ⊥) → lost o ≡ true)
           → board_by (with_receiver b r) (shape (fetch n)) o ≡ with_receiver (board_by b (shape (frame (held_of r) 259)) o) no_bytes
-      go Done l = ap let_go (request_changes b r s (request_of s))
-      go (Refused refusal) l = rw (l (refused_not refusal)) refl
+      go (Ok done) l = ap let_go (request_changes b r s (request_of s))
+      go (Err refusal) l = rw (l (refused_not refusal)) refl
 
   fetched_reply : take 259 (buffer_after (with_receiver b r) (fetch n)) ≡ buffer_after b (frame (held_of r) 259)
   unfolding shape seen_of

@@ -4,6 +4,7 @@
 -- the clear, rounded once. Why: the board is the one that its deeds make, and the draft of an accepted write has at each register the last
 -- value that was put there.
 -- Assumes nothing.
+use Rattle.std.specs.Prelude.{Ok, Option, Some}
 use mathlib.Core.Path.{◌≡◌, refl, sym, ap, ap₂, ◌∙◌, subst⁻¹}
 use mathlib.Core.Bool.{Bool, true, false, cond}
 use mathlib.Core.Logic.{◌⊎◌, inl, inr}
@@ -16,7 +17,7 @@ use lib.Dec.{eqb}
 use lib.ListN.{length, take, drop, length-drop}
 use lib.Seq.{take_all, take-append-le, drop-append-le, drop-drop, drop_at}
 use Rattle.laws.specs.History.{never, since, each, head_or, newest}
-use Rattle.refusals.specs.declared.Outcome.TheVariants.{Done}
+use Rattle.refusals.specs.Refusals.{Done}
 use Rattle.numbers.specs.Numbers.{low_half, high_half, le16, be16}
 use Rattle.settings.specs.declared.Settings.{Settings}
 use Rattle.settings.specs.declared.Draft.{Draft}
@@ -31,13 +32,10 @@ use Rattle.requests.specs.declared.Query.TheVariants.{Registers, Listed, Setting
 use Rattle.writes.specs.declared.Pair.{Pair}
 use Rattle.writes.specs.Writes.{names, last_of, drafted_of}
 use Rattle.writes.proofs.LastPut.{last_given_lem}
-use Rattle.requests.specs.declared.Request.{Request}
 use Rattle.requests.specs.declared.Request.TheVariants as request
-use Rattle.requests.specs.Requests.{request_of, address_at}
+use Rattle.requests.specs.Requests.{request_of, address_at, Asked}
 use Rattle.requests.proofs.Sound.{counted, sound}
 use Rattle.replies.proofs.Writing.{words_alike, words_length, sealed_length}
-use Rattle.answers.specs.declared.Shown.{Shown}
-use Rattle.answers.specs.declared.Shown.TheVariants.{Register}
 use Rattle.answers.specs.Registers.{shown_at, value_of, value_at}
 use Rattle.answers.specs.Answers.{with_register, body_by, body_of, accepted_reply, reply_by, write_outcome}
 use Rattle.board.specs.declared.Board.{Board}
@@ -169,7 +167,7 @@ Asks cells per_km cs c s room = (c ≡ frame s room) ⊎ ((c ≡ fetch room) × 
 -- after those calls whatever asks that query and is done gets these bytes, then their CRC and zeros
 abbrev pub Replies : Behaviour → ℕ → ℕ → List Call → Query → (List ℕ → List ℕ) → Type 0
 Replies B cells per_km cs q bytes =
-    (c : Call) (s : List ℕ) (room : ℕ) → Asks cells per_km cs c s room → request_of s ≡ request.Read q
+    (c : Call) (s : List ℕ) (room : ℕ) → Asks cells per_km cs c s room → request_of s ≡ Ok (request.Read q)
     → (shown B cells per_km cs c).outcome ≡ Done → (shown B cells per_km cs c).buffer ≡ padded room (sealed (bytes s))
 
 -- to 0x09: each address in order and its register, where registers show those values
@@ -202,7 +200,7 @@ entry_at value s n i l =
 -- so of a list that mixes ranges, entry by entry: where the i-th address is a setting's, its four bytes are that address and what it was
 -- last given
 pub entry_reads : (B : Behaviour) → ReadsBack B → (cells per_km : ℕ) (cs : List Call) → Typed cs → (c : Call) (s : List ℕ) (room n : ℕ)
-    → Asks cells per_km cs c s room → request_of s ≡ request.Read (Listed n) → (shown B cells per_km cs c).outcome ≡ Done
+    → Asks cells per_km cs c s room → request_of s ≡ Ok (request.Read (Listed n)) → (shown B cells per_km cs c).outcome ≡ Done
     → (i : ℕ) → i < n → 300 ≤ address_at s i → address_at s i ≤ 399
     → take 4 (drop (3 + 4 * i) (shown B cells per_km cs c).buffer)
     ≡ le16 (address_at s i) ++ le16 (last_given (address_at s i) (deeds cells per_km cs))
@@ -247,23 +245,23 @@ module _ (cells per_km : ℕ) (cs : List Call) where
 
   -- so an accepted query is answered with its bytes
   answered : (q : Query) (bytes : List ℕ → List ℕ)
-      → ((s : List ℕ) → request_of s ≡ request.Read q → body_of after.pack after.hire s q ≡ bytes s)
+      → ((s : List ℕ) → request_of s ≡ Ok (request.Read q) → body_of after.pack after.hire s q ≡ bytes s)
       → Replies board cells per_km cs q bytes
   unfolding seen_of reply_by accepted_reply
   answered q bytes is c s room asks e z =
       ap (seen_of ((shape c).lent after)) z
       ∙ ap (λ (l : Lent). seen_of l Done) (lent_by c s room asks)
-      ∙ ap (λ (r : Request). padded room (accepted_reply after.pack after.hire s r)) e
+      ∙ ap (λ (r : Asked). padded room (accepted_reply after.pack after.hire s r)) e
       ∙ ap (λ (body : List ℕ). padded room (sealed body)) (is s e)
 
   -- 100 and 101, the distance
   pub distance_reads : per_km ≤ 65535
-      → (shown_by after 100 ≡ Register (low_half (distance_at per_km made))) × (shown_by after 101 ≡ Register (high_half (distance_at per_km made)))
+      → (shown_by after 100 ≡ Some (low_half (distance_at per_km made))) × (shown_by after 101 ≡ Some (high_half (distance_at per_km made)))
   unfolding shown_at statistics.register_of board_at
   distance_reads most =
       let e = distance_shown per_km made most in (
-        holds_after (λ b. shown_by b 100 ≡ Register (low_half (distance_at per_km made))) (ap (λ n. Register (low_half n)) e),
-        holds_after (λ b. shown_by b 101 ≡ Register (high_half (distance_at per_km made))) (ap (λ n. Register (high_half n)) e),
+        holds_after (λ b. shown_by b 100 ≡ Some (low_half (distance_at per_km made))) (ap (λ n. Some (low_half n)) e),
+        holds_after (λ b. shown_by b 101 ≡ Some (high_half (distance_at per_km made))) (ap (λ n. Some (high_half n)) e),
       )
 
   module _ (typed : Typed cs) where
@@ -271,12 +269,12 @@ module _ (cells per_km : ℕ) (cs : List Call) where
     all_made = writes_give cells per_km (reverse cs) (all_reversed TypedCall cs [] typed tt)
 
     -- a register by its number
-    pub register_reads : (at : ℕ) → 300 ≤ at → at ≤ 399 → shown_by after at ≡ Register (last_given at made)
+    pub register_reads : (at : ℕ) → 300 ≤ at → at ≤ 399 → shown_by after at ≡ Some (last_given at made)
     unfolding shown_at board_at
     register_reads at l m =
-        holds_after (λ b. shown_by b at ≡ Register (last_given at made))
+        holds_after (λ b. shown_by b at ≡ Some (last_given at made))
         (rw (lt-leb at 55 (omega arith), le-leb 100 at (omega arith), lt-leb at 117 (omega arith), le-leb 300 at l, le-leb at 399 m)
-        (ap Register (all_made.1 at l m)))
+        (ap Some (all_made.1 at l m)))
 
     -- and as replies have it
     pub value_reads : (at : ℕ) → 300 ≤ at → at ≤ 399 → value_at after.pack after.hire at ≡ given_at at
@@ -304,7 +302,7 @@ module _ (cells per_km : ℕ) (cs : List Call) where
         (λ i k. all_made.1 (300 + i) (omega arith) (omega arith))))
 
 -- 0x1D shows 100 settings at most
-few : (s : List ℕ) (n : ℕ) → request_of s ≡ request.Read (SettingsOf Current n) → n ≤ 100
+few : (s : List ℕ) (n : ℕ) → request_of s ≡ Ok (request.Read (SettingsOf Current n)) → n ≤ 100
 unfolding counted
 few s n e = leb-true n 100 (rw e at (sound s).few)
 
@@ -324,5 +322,5 @@ held =
       distance = λ cells per_km cs most.
           let d = distance_reads cells per_km cs most in
           answered cells per_km cs (Registers 0x03 100 2) _
-          (λ s e. ap₂ (λ (low high : Shown). 0xAA ∷ 0x03 ∷ 4 ∷ be16 (value_of low) ++ be16 (value_of high)) d.0 d.1);
+          (λ s e. ap₂ (λ (low high : Option ℕ). 0xAA ∷ 0x03 ∷ 4 ∷ be16 (value_of low) ++ be16 (value_of high)) d.0 d.1);
     }

@@ -5,6 +5,7 @@
 -- rules, so from any start and through any calls both are in one state (settings, latches, waits, events, statistics, bits, switches), give
 -- the same outcomes, switches and bits, and the same replies but for the words of registers 40 and 41: only a reply rounds.
 -- Assumes nothing.
+use Rattle.std.specs.Prelude.{Err, Ok, Some}
 use mathlib.Core.Path.{◌≡◌, refl, sym, ap, ◌∙◌, subst⁻¹}
 use mathlib.Core.Bool.{◌||◌, cond}
 use mathlib.Core.List.{List, [], ◌∷◌, ◌++◌, reverse, reverse_aux}
@@ -14,14 +15,13 @@ use borrow.Author.Tests.{ne_eqb}
 use lib.Dec.{eqb}
 use lib.ListN.{length, take, drop}
 use Rattle.refusals.specs.declared.Refusal.TheVariants.{NoBoard}
-use Rattle.refusals.specs.declared.Outcome.TheVariants.{Done, Refused}
+use Rattle.refusals.specs.Refusals.{Done, Refused}
 use Rattle.numbers.specs.Numbers.{le16}
 use Rattle.replies.specs.Replies.{word16, words, sealed}
 use Rattle.requests.specs.declared.Query.{Query}
 use Rattle.requests.specs.declared.Query.TheVariants.{Registers, Listed, Bare, NewEvents, AllEvents, Temperatures, Cells, SettingsOf}
-use Rattle.requests.specs.declared.Request.{Request}
 use Rattle.requests.specs.declared.Request.TheVariants as request
-use Rattle.requests.specs.Requests.{address_at, request_of}
+use Rattle.requests.specs.Requests.{address_at, request_of, Asked}
 use Rattle.requests.proofs.Sound.{named_by, register_in}
 use Rattle.cells.specs.declared.Extremes.{Extremes}
 use Rattle.cells.specs.Cells.{extremes_of}
@@ -33,7 +33,6 @@ use Rattle.pack.specs.declared.Pack.{Pack}
 use Rattle.pack.specs.Pack.{usable_count}
 use Rattle.hire.specs.Hire.{new_hire}
 use Rattle.hire.specs.Registers.{reading_register}
-use Rattle.answers.specs.declared.Shown.TheVariants.{Register}
 use Rattle.answers.specs.Registers.{shown_at, value_at}
 use Rattle.answers.specs.Answers.{cells_of, with_register, body_by, body_of, accepted_reply}
 use Rattle.board.specs.declared.Board.{Board}
@@ -117,12 +116,12 @@ value_down b at =
     (cond (eqb at 41) (b.hire.sensed.extremes.highest / 10) (value_at b.pack b.hire at))
 
 -- a reply with those registers; all else as document 01 still has it
-unfoldable pub request_down : Board → List ℕ → Request → List ℕ
-request_down b s (request.Refused refusal) = accepted_reply b.pack b.hire s (request.Refused refusal)
-request_down b s request.ClearEvents = accepted_reply b.pack b.hire s request.ClearEvents
-request_down b s request.ClearStatistics = accepted_reply b.pack b.hire s request.ClearStatistics
-request_down b s (request.Write f n) = accepted_reply b.pack b.hire s (request.Write f n)
-request_down b s (request.Read q) = sealed (body_by b.pack b.hire (value_down b) s q)
+unfoldable pub request_down : Board → List ℕ → Asked → List ℕ
+request_down b s (Err refusal) = accepted_reply b.pack b.hire s (Err refusal)
+request_down b s (Ok request.ClearEvents) = accepted_reply b.pack b.hire s (Ok request.ClearEvents)
+request_down b s (Ok request.ClearStatistics) = accepted_reply b.pack b.hire s (Ok request.ClearStatistics)
+request_down b s (Ok (request.Write f n)) = accepted_reply b.pack b.hire s (Ok (request.Write f n))
+request_down b s (Ok (request.Read q)) = sealed (body_by b.pack b.hire (value_down b) s q)
 
 -- what a call leaves of a reply buffer with that reply; all else that is lent as ours
 abbrev pub lent_down : Board → Lent → Lent
@@ -252,19 +251,19 @@ same_body b s q away = go q away
     go (SettingsOf kind n) away = refl
 
 -- of an accepted request, on a board that shows b
-same_reply_of : (b : Board) (s : List ℕ) → ((q : Query) → request_of s ≡ request.Read q → Neither s q)
+same_reply_of : (b : Board) (s : List ℕ) → ((q : Query) → request_of s ≡ Ok (request.Read q) → Neither s q)
     → request_down b s (request_of s) ≡ accepted_reply b.pack b.hire s (request_of s)
 unfolding request_down accepted_reply
 same_reply_of b s away = same (request_of s) refl
   where
-    same : (q : Request) → request_of s ≡ q → request_down b s q ≡ accepted_reply b.pack b.hire s q
-    same (request.Refused refusal) e = refl
-    same request.ClearEvents e = refl
-    same request.ClearStatistics e = refl
-    same (request.Write f n) e = refl
-    same (request.Read q) e = ap sealed (same_body b s q (away q e))
+    same : (q : Asked) → request_of s ≡ q → request_down b s q ≡ accepted_reply b.pack b.hire s q
+    same (Err refusal) e = refl
+    same (Ok request.ClearEvents) e = refl
+    same (Ok request.ClearStatistics) e = refl
+    same (Ok (request.Write f n)) e = refl
+    same (Ok (request.Read q)) e = ap sealed (same_body b s q (away q e))
 
-pub same_reply : (cells per_km : ℕ) (cs : List Call) (s : List ℕ) (room : ℕ) → ((q : Query) → request_of s ≡ request.Read q → Neither s q)
+pub same_reply : (cells per_km : ℕ) (cs : List Call) (s : List ℕ) (room : ℕ) → ((q : Query) → request_of s ≡ Ok (request.Read q) → Neither s q)
     → (board.step (ours cells per_km cs) (frame s room)).1.buffer ≡ (rounding_down.step (theirs cells per_km cs) (frame s room)).1.buffer
 unfolding shape buffer_down
 same_reply cells per_km cs s room away =
@@ -274,7 +273,7 @@ same_reply cells per_km cs s room away =
 
 -- by a fetch too
 pub same_fetched : (cells per_km : ℕ) (cs : List Call) (room : ℕ)
-    → ((q : Query) → request_of (held_in (ours cells per_km cs)) ≡ request.Read q → Neither (held_in (ours cells per_km cs)) q)
+    → ((q : Query) → request_of (held_in (ours cells per_km cs)) ≡ Ok (request.Read q) → Neither (held_in (ours cells per_km cs)) q)
     → (board.step (ours cells per_km cs) (fetch room)).1.buffer ≡ (rounding_down.step (theirs cells per_km cs) (fetch room)).1.buffer
 unfolding shape buffer_down
 same_fetched cells per_km cs room away =
@@ -285,6 +284,6 @@ same_fetched cells per_km cs room away =
 -- ---- 0 before the first tick and after a handover, as before
 
 pub none_read : (p : Pack)
-    → (shown_at p (new_hire p.clock.seconds) 40 ≡ Register 0) × (shown_at p (new_hire p.clock.seconds) 41 ≡ Register 0)
+    → (shown_at p (new_hire p.clock.seconds) 40 ≡ Some 0) × (shown_at p (new_hire p.clock.seconds) 41 ≡ Some 0)
 unfolding shown_at reading_register new_hire
 none_read p = (refl, refl)

@@ -2,6 +2,9 @@
 -- a start have such numbers; so a save followed by a load, into that board or any other, gives the same list with everything marked as
 -- sent, and a load followed by a save gives the area back.
 -- Assumes nothing.
+use Rattle.refusals.proofs.Rows.{come_to_giving}
+use Rattle.refusals.specs.declared.Refusal.{Refusal}
+use Rattle.std.specs.Prelude.{Result, Ok, Err}
 use mathlib.Core.Path.{◌≡◌, refl, sym, ap, ◌∙◌, subst, subst⁻¹}
 use mathlib.Core.Bool.{Bool, true, false, ◌&&◌, not, cond, false≢true}
 use mathlib.Core.List.{List, [], ◌∷◌, ◌++◌, map, reverse, append-nil, append_assoc}
@@ -13,16 +16,14 @@ use lib.ListN.{length, take, drop, get_or, replicate, length-take, length-revers
 use Rattle.crc.specs.Crc.{crc_of}
 use Rattle.numbers.specs.Numbers.{le16_at}
 use Rattle.refusals.specs.declared.Refusal.TheVariants.{NoBoard, WrongArea, UsedAfterUnused, NeverRecorded}
-use Rattle.refusals.specs.declared.Outcome.{Outcome}
-use Rattle.refusals.specs.declared.Outcome.TheVariants.{Done, Refused}
-use Rattle.refusals.specs.Refusals.{is_done, first}
+use Rattle.refusals.specs.Refusals.{Outcome, Done, Refused, is_done, first, come_to, giving}
 use Rattle.laws.specs.History.{since, from, each, any, latest}
 use Rattle.laws.proofs.Lists.{latest_few, length_latest}
 use Rattle.events.specs.declared.Event.{Event}
 use Rattle.events.specs.declared.Events.{Events}
-use Rattle.events.specs.declared.Loaded.{Loaded}
 use Rattle.events.specs.Events.{capacity, event_at, number_of, no_event, kept_of, new_of, sent_of}
 use Rattle.events.specs.Area.{area_length, old_length, recorded_numbers, is_in, is_recorded, never_recorded, used, used_of, area_of}
+use Rattle.events.specs.Area.{kept_after}
 use Rattle.events.specs.Area.{load_rows, list_of, events_in, load_of}
 use Rattle.events.proofs.Saved.{unrecorded, Bytes, whole_of, whole_same, save_load, same_kept, none_new, load_save, old_loads}
 use Rattle.guard.specs.declared.Conditions.{Conditions}
@@ -195,10 +196,9 @@ latest_first zero es = refl
 latest_first (suc n) [] = refl
 latest_first (suc n) (e ∷ es) = ap (λ (l : List Event). l ++ (e ∷ [])) (latest_first n es)
 
--- whatever list it replaces, the area of e loads as the same list, everything marked as sent
-abbrev Back : Events → Events → Type 0
-Back f e =
-    (load_of f (area_of e) ≡ record { outcome = Done; events = sent_of e }) × (kept_of (sent_of e) ≡ kept_of e) × (new_of (sent_of e) ≡ [])
+-- the area of e loads as the same list, everything marked as sent
+abbrev Back : Events → Type 0
+Back e = (load_of (area_of e) ≡ Ok (sent_of e)) × (kept_of (sent_of e) ≡ kept_of e) × (new_of (sent_of e) ≡ [])
 
 module _ (h : List Deed) (known : KeptKnown h) where
   abbrev kept : List Event
@@ -224,9 +224,9 @@ module _ (h : List Deed) (known : KeptKnown h) where
       let count : length (reverse kept) ≡ min capacity (length (kept_since h)) = omega arith in
       ap list_of (kept_shown h) ∙ (λ i. record { list = list i; kept = count i; unsent = 0 })
 
-  account_loads : (f : Events) → Back f (events_at h)
-  account_loads f = (
-    save_load (events_at h) places kept_known f ∙ (λ i. record { outcome = Done; events = all_sent i }),
+  account_loads : Back (events_at h)
+  account_loads = (
+    save_load (events_at h) places kept_known ∙ ap Ok all_sent,
     ap kept_of (sym all_sent) ∙ same_kept (events_at h) places kept_known,
     ap new_of (sym all_sent) ∙ none_new (events_at h) places kept_known,
   )
@@ -236,22 +236,23 @@ saves : (b : Board) → usable b ≡ true → buffer_after b (save area_length) 
 unfolding shape outcome_of first seen_of
 saves b some = rw some refl
 
--- the answer of that outcome, with those events
-abbrev answer_by : Board → Loaded → Answer
-answer_by b l = record { outcome = l.outcome; board = with_events b l.events }
+-- the answer of that, with the events after it
+abbrev answer_by : Board → Result Events Refusal → Answer
+answer_by b l = record { outcome = come_to l; board = with_events b (kept_after b.hire.events l) }
 
-loads : (b : Board) (area : List ℕ) → usable b ≡ true → answer_to b (load area) ≡ answer_by b (load_of b.hire.events area)
+loads : (b : Board) (area : List ℕ) → usable b ≡ true → answer_to b (load area) ≡ answer_by b (load_of area)
 unfolding shape load_of board_by
 loads b area some =
     let o = first (load_rows area) in
-    sym (answered b (load area) o _ (sym (by_rows b (shape (load area)) some))
-    (go (is_done o)
+    sym (answered b (load area) (come_to (load_of area)) _ (come_to_giving o (list_of (events_in area)) ∙ sym (by_rows b (shape (load area)) some))
+    (go o
     ∙ ap (λ (t : Bool). cond (is_done o) (with_events b (list_of (events_in area))) (cond t (let_go b) b))
-    (sym (holds_on b (shape (load area)) o refl))))
+    (sym (holds_on b (shape (load area)) o refl))
+    ∙ ap (board_by b (shape (load area))) (sym (come_to_giving o (list_of (events_in area))))))
   where
-    go : (t : Bool) → with_events b (cond t (list_of (events_in area)) b.hire.events) ≡ cond t (with_events b (list_of (events_in area))) b
-    go true = refl
-    go false = refl
+    go : (o : Outcome) → with_events b (kept_after b.hire.events (giving o (list_of (events_in area)))) ≡ cond (is_done o) (with_events b (list_of (events_in area))) b
+    go (Ok done) = refl
+    go (Err refusal) = refl
 
 module _ (cells per_km : ℕ) (cs : List Call) (some : usable_count cells ≡ true) where
   abbrev now : Board
@@ -283,9 +284,9 @@ module _ (cells per_km : ℕ) (cs : List Call) (some : usable_count cells ≡ tr
         × (new_of loading_it.0.hire.events ≡ [])
     unfolding board_at
     save_then_load =
-        let back : Back other.hire.events now.hire.events =
-        subst⁻¹ (λ (b : Board). Back other.hire.events b.hire.events) (account cells per_km cs)
-        (account_loads (deeds cells per_km cs) (known_since cells per_km (reverse cs)) other.hire.events) in
+        let back : Back now.hire.events =
+        subst⁻¹ (λ (b : Board). Back b.hire.events) (account cells per_km cs)
+        (account_loads (deeds cells per_km cs) (known_since cells per_km (reverse cs))) in
         let told = ap (λ (bytes : List ℕ). answer_to other (load bytes)) saved
         ∙ loads other (area_of now.hire.events) some-other
         ∙ ap (answer_by other) back.0 in
@@ -308,7 +309,7 @@ pub load_then_save_whole : (b : Board) (area : List ℕ) → usable b ≡ true �
 load_then_save_whole b area some bytes done =
     let after = ap (λ (a : Answer). a.board) (loads b area some) in
     ap (λ (x : Board). buffer_after x (save area_length)) after
-    ∙ saves (answer_by b (load_of b.hire.events area)).board some
+    ∙ saves (answer_by b (load_of area)).board some
     ∙ load_save area done (area_bytes area bytes) b.hire.events
 
 pub load_then_save : (b : Board) (area : List ℕ) → usable b ≡ true → All (λ byte. byte ≤ 255) area → first (load_rows area) ≡ Done
@@ -325,7 +326,7 @@ old_load b old h = go (usable b) refl
     whole = old ++ replicate (area_length - old_length) 0xFF
 
     go : (t : Bool) → usable b ≡ t → answer_to b (load old) ≡ answer_to b (load (old ++ replicate (area_length - old_length) 0xFF))
-    go true u = loads b old u ∙ ap (answer_by b) (old_loads b.hire.events old h) ∙ sym (loads b whole u)
+    go true u = loads b old u ∙ ap (answer_by b) (old_loads old h) ∙ sym (loads b whole u)
     go false u = sym (none b (load old) (Refused NoBoard) refl u) ∙ none b (load whole) (Refused NoBoard) refl u
 
 -- ---- a load changes the events alone; a save changes nothing

@@ -12,9 +12,7 @@ use native.Mathlib.Omega.{arith}
 use lib.ListN.{length, take, drop, length-drop}
 use lib.Seq.{take-append-add, drop-append-le, take_all}
 use Rattle.refusals.specs.declared.Refusal.TheVariants.{FrameHeld}
-use Rattle.refusals.specs.declared.Outcome.{Outcome}
-use Rattle.refusals.specs.declared.Outcome.TheVariants.{Done, Refused}
-use Rattle.refusals.specs.Refusals.{first}
+use Rattle.refusals.specs.Refusals.{Outcome, Done, Refused, first}
 use Rattle.receiver.specs.declared.Receiver.{Receiver}
 use Rattle.receiver.specs.Receiver.{no_bytes, is_held, with_byte, taken, offered_by, offered_of}
 use Rattle.receiver.specs.Line.{Turn, offers, fetches, cut, replies_to, after}

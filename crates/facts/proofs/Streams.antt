@@ -6,8 +6,7 @@ use mathlib.Core.List.{List, [], ◌∷◌, ◌++◌, map}
 use Prim.Native.Nat.{ℕ}
 use lib.ListN.{length, take, drop, replicate}
 use Rattle.refusals.specs.declared.Refusal.TheVariants.{NoRoom, Foreign, Damaged, WrongLength, FrameHeld, NoFrameHeld}
-use Rattle.refusals.specs.declared.Outcome.{Outcome}
-use Rattle.refusals.specs.declared.Outcome.TheVariants.{Done, Refused}
+use Rattle.refusals.specs.Refusals.{Outcome, Done, Refused}
 use Rattle.replies.specs.Replies.{sealed}
 use Rattle.receiver.specs.Receiver.{no_bytes, holding}
 use Rattle.board.specs.declared.Board.{Board}

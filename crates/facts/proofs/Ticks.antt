@@ -1,5 +1,6 @@
 -- Boards from the start through ticks and a handover, computed: which events are recorded, in which order, and how many are kept, what is
 -- counted, and what a handover clears and keeps. Assumes nothing.
+use Rattle.std.specs.Prelude.{Some}
 use mathlib.Core.Path.{◌≡◌, refl}
 use mathlib.Core.Bool.{Bool, true, false}
 use mathlib.Core.List.{List, [], ◌∷◌, ◌++◌, map}
@@ -14,12 +15,10 @@ use Rattle.guard.specs.Guard.{holds_of, waits_of, recovers_of, latched_of, guard
 use Rattle.guard.specs.Table.{is, charge_off, discharge_off, faulty, latch_event, recovery_event, event_of}
 use Rattle.readings.specs.declared.Readings.{Readings}
 use Rattle.statistics.specs.Statistics as statistics
-use Rattle.answers.specs.declared.Shown.TheVariants.{Register}
 use Rattle.board.specs.declared.Board.{Board}
 use Rattle.hire.specs.Hire.{new_hire}
 use Rattle.board.specs.Start.{start_board, start_of}
-use Rattle.refusals.specs.declared.Outcome.TheVariants.{Done}
-use Rattle.refusals.specs.Refusals.{first}
+use Rattle.refusals.specs.Refusals.{Done, first}
 use Rattle.hire.specs.Tick.{events_of, recorded_all, status_for}
 use Rattle.pack.specs.Pack.{new_pack, later_of}
 use Rattle.board.specs.Calls.{tick, shape, outcome_of, board_by, outcome_in, board_after}
@@ -150,8 +149,8 @@ the_latest_62 = (refl, refl)
 -- 107 DOC latchings (not counting a condition at each tick it holds): three ticks of DOC are one, and three more after its
 -- recovery another
 pub counted_at_latching :
-    (shown_by (after fresh (replicate 3 drawn)) 107 ≡ Register 1)
-    × (shown_by (after fresh (replicate 3 drawn ++ replicate 50 still ++ replicate 3 drawn)) 107 ≡ Register 2)
+    (shown_by (after fresh (replicate 3 drawn)) 107 ≡ Some 1)
+    × (shown_by (after fresh (replicate 3 drawn ++ replicate 50 still ++ replicate 3 drawn)) 107 ≡ Some 2)
 unfolding shown_at statistics.register_of fresh after drawn still
 counted_at_latching = (refl, refl)
 
@@ -171,10 +170,10 @@ looked_at = 100 ∷ 105 ∷ 106 ∷ 107 ∷ 108 ∷ 109 ∷ 116 ∷ 32 ∷ 50 �
 -- on a usable board handover refuses no record of 32 bytes. Events and statistics go to their start values; 116 takes the lifetime; status
 -- becomes 0x97. Kept: the lifetime, latched conditions, waits; COC recovers 29 ticks later, DOC 31
 pub a_handover :
-    (map (shown_by used) looked_at ≡ map Register (20 ∷ 1 ∷ 1 ∷ 1 ∷ 1 ∷ 1 ∷ 0 ∷ 2 ∷ 0x9B ∷ []))
+    (map (shown_by used) looked_at ≡ map Some (20 ∷ 1 ∷ 1 ∷ 1 ∷ 1 ∷ 1 ∷ 0 ∷ 2 ∷ 0x9B ∷ []))
     × (recorded used ≡ 0x64 ∷ 0x02 ∷ 0x03 ∷ 0x04 ∷ 0x06 ∷ 0x37 ∷ 0x65 ∷ 0x7B ∷ 0x79 ∷ 0x73 ∷ 0x74 ∷ 0x05 ∷ [])
     × (outcome_in used handing ≡ Done)
-    × (map (shown_by handed) looked_at ≡ map Register (0 ∷ 0 ∷ 0 ∷ 0 ∷ 0 ∷ 0 ∷ 2 ∷ 2 ∷ 0x97 ∷ []))
+    × (map (shown_by handed) looked_at ≡ map Some (0 ∷ 0 ∷ 0 ∷ 0 ∷ 0 ∷ 0 ∷ 2 ∷ 2 ∷ 0x97 ∷ []))
     × (recorded handed ≡ [])
     × (handed.hire ≡ new_hire 2)
     × (handed.pack ≡ used.pack)

@@ -11,7 +11,7 @@ use Prim.Native.Nat.{ℕ}
 use lib.Dec.{eqb, leb}
 use lib.ListN.{length, get_or}
 use Rattle.laws.specs.History.{any}
-use Rattle.refusals.specs.declared.Left.TheVariants.{Nack}
+use Rattle.std.specs.Prelude.{Some, Ok, Err, is_ok, is_some}
 use Rattle.refusals.specs.declared.Refusal.{Refusal}
 use Rattle.refusals.specs.declared.Refusal.TheVariants.{NoRoom, Foreign, Damaged, UnknownCommand, WrongLength, WrongField}
 use Rattle.refusals.specs.declared.Refusal.TheVariants.{OutOfRange, OutOfOrder, FrameHeld, NoFrameHeld}
@@ -19,19 +19,17 @@ use Rattle.refusals.specs.declared.Refusal.TheVariants.{WrongCells, WrongCurrent
 use Rattle.refusals.specs.declared.Refusal.TheVariants.{UsedAfterUnused, NeverRecorded, BadRecord, CutRecord, WrongSlice}
 use Rattle.refusals.specs.declared.Refusal.TheVariants.{WrongStore, SpoiltStore, NoEdition, BrokenRules, EditionsUsedUp}
 use Rattle.refusals.specs.declared.Refusal.TheVariants.{CutBill, PastTotal, WrongRecord}
-use Rattle.refusals.specs.declared.Outcome.{Outcome}
-use Rattle.refusals.specs.declared.Outcome.TheVariants.{Done, Refused}
-use Rattle.refusals.specs.Refusals.{refusal_number, left_by, number_of, first}
+use Rattle.refusals.specs.Refusals.{Outcome, Done, Refused, refusal_number, left_by, number_of, first, come_to}
 use Rattle.settings.specs.declared.Settings.{Settings}
 use Rattle.settings.specs.Settings as settings
 use Rattle.settings.proofs.Drafts.{AllFit}
 use Rattle.writes.specs.declared.Pair.{Pair}
 use Rattle.writes.specs.Writes.{pairs_of, drafted_of, written_to}
 use Rattle.writes.proofs.Why as why
-use Rattle.requests.specs.declared.Request.{Request}
 use Rattle.requests.specs.declared.Request.TheVariants as request
-use Rattle.requests.specs.Requests.{length_of, fields_in, foreign, damaged, unknown_command, wrong_length, wrong_field, asked_of, request_of}
-use Rattle.requests.proofs.Outcomes.{is_refused, accepted, not_refused, right_is_taken}
+use Rattle.requests.specs.Requests.{length_of, fields_in, foreign, damaged, unknown_command, wrong_length, wrong_field, asked_of}
+use Rattle.requests.specs.Requests.{request_of, Asked}
+use Rattle.requests.proofs.Outcomes.{accepted, accepted_asks, right_is_taken}
 use Rattle.replies.specs.Replies.{padded, sealed, nack_of}
 use Rattle.answers.specs.Answers.{asked_rows, reply_by}
 use Rattle.board.specs.declared.Board.{Board}
@@ -48,14 +46,14 @@ abbrev pub before : ℕ → ℕ
 before n = cond (leb 41 n && leb n 45) 4 n
 
 -- a setting against its rule: of a write that is asked
-abbrev pub settings_wrong : Settings → List ℕ → Request → Bool
-settings_wrong st s (request.Refused refusal) = false
-settings_wrong st s request.ClearEvents = false
-settings_wrong st s request.ClearStatistics = false
-settings_wrong st s (request.Write f n) =
+abbrev pub settings_wrong : Settings → List ℕ → Asked → Bool
+settings_wrong st s (Err refusal) = false
+settings_wrong st s (Ok request.ClearEvents) = false
+settings_wrong st s (Ok request.ClearStatistics) = false
+settings_wrong st s (Ok (request.Write f n)) =
     let values = (drafted_of (settings.draft_of st) (pairs_of f s n)).values in
     any (settings.is_out values) settings.registers || not (settings.ordered (settings.settings_of values))
-settings_wrong st s (request.Read q) = false
+settings_wrong st s (Ok (request.Read q)) = false
 
 -- document 01's table before W-208: "4: unknown command, wrong length, or a field or setting against its rule"; a length was the one that
 -- the raw line takes
@@ -67,13 +65,13 @@ abbrev pub number_then : Board → List ℕ → ℕ
 number_then b s = cond (foreign s) 2 (cond (damaged s) 3 (cond (four b s) 4 0))
 
 -- what a request asks
-asked : (b : Board) (s : List ℕ) (q : Request) → is_refused q ≡ false
+asked : (b : Board) (s : List ℕ) (q : Asked) → is_ok q ≡ true
     → before (number_of (first (asked_rows b.pack s q))) ≡ cond (settings_wrong b.pack.settings s q) 4 0
-unfolding first is_refused
-asked b s (request.Refused refusal) e = absurd (false≢true (sym e))
-asked b s request.ClearEvents e = refl
-asked b s request.ClearStatistics e = refl
-asked b s (request.Write f n) e =
+unfolding first
+asked b s (Err refusal) e = absurd (false≢true e)
+asked b s (Ok request.ClearEvents) e = refl
+asked b s (Ok request.ClearStatistics) e = refl
+asked b s (Ok (request.Write f n)) e =
     let values = (drafted_of (settings.draft_of b.pack.settings) (pairs_of f s n)).values in
     go (any (settings.is_out values) settings.registers) (settings.ordered (settings.settings_of values)) (settings.lowest (settings.is_out values) settings.registers)
   where
@@ -82,7 +80,7 @@ asked b s (request.Write f n) e =
     go true u at = refl
     go false true at = refl
     go false false at = refl
-asked b s (request.Read q) e = refl
+asked b s (Ok (request.Read q)) e = refl
 
 -- no row of a request applies
 none : (f d u l w : Bool) → cond f true (cond d true (cond u true (cond l true w))) ≡ false
@@ -98,11 +96,11 @@ none false false false false false e = refl
 pub as_before : (b : Board) (s : List ℕ) → before (number_of (first (frame_rows b s))) ≡ number_then b s
 unfolding first
 as_before b s =
-    go (foreign s) (damaged s) (unknown_command s) (wrong_length s) (fields_in s).good (not (eqb (length s) (length_of s)))
+    go (foreign s) (damaged s) (unknown_command s) (wrong_length s) (is_some (fields_in s)) (not (eqb (length s) (length_of s)))
     (λ good. ap (λ (n : ℕ). not (eqb (length s) n)) (right_is_taken s good))
     (λ e. let done = none (foreign s) (damaged s) (unknown_command s) (wrong_length s) (wrong_field s) e in
-    ap (λ (q : Request). before (number_of (first (asked_rows b.pack s q)))) (accepted s done)
-    ∙ asked b s (asked_of s) (not_refused s done))
+    ap (λ (q : Asked). before (number_of (first (asked_rows b.pack s q)))) (accepted s done)
+    ∙ asked b s (asked_of s) (ap is_ok (sym (accepted s done)) ∙ accepted_asks s done))
   where
     wrong : Bool
     wrong = settings_wrong b.pack.settings s (asked_of s)
@@ -128,7 +126,7 @@ as_before b s =
 
 -- ---- the bytes and the board
 
-nacked : (r : Refusal) → eqb (before (refusal_number r)) 4 ≡ true → left_by r ≡ Nack 0x00
+nacked : (r : Refusal) → eqb (before (refusal_number r)) 4 ≡ true → left_by r ≡ Some 0x00
 nacked UnknownCommand e = refl
 nacked WrongLength e = refl
 nacked WrongField e = refl
@@ -163,13 +161,13 @@ nacked WrongRecord e = absurd (false≢true e)
 module _ (b : Board) (s : List ℕ) where
   said : (o : Outcome) (reply : List ℕ) → eqb (before (number_of o)) 4 ≡ true → reply_by o s reply ≡ sealed (nack_of (get_or s 1 0) 0x00)
   unfolding reply_by
-  said Done reply e = absurd (false≢true e)
-  said (Refused r) reply e = rw (nacked r e) refl
+  said (Ok done) reply e = absurd (false≢true e)
+  said (Err r) reply e = rw (nacked r e) refl
 
   stays : (c : Call) (o : Outcome) → eqb (before (number_of o)) 4 ≡ true → board_by b (shape c) o ≡ cond (shape c).fetches (let_go b) b
   unfolding board_by
-  stays c Done e = absurd (false≢true e)
-  stays c (Refused r) e = rw (nacked r e) (go (eqb (refusal_number r) 2) (shape c).fetches)
+  stays c (Ok done) e = absurd (false≢true e)
+  stays c (Err r) e = rw (nacked r e) (go (eqb (refusal_number r) 2) (shape c).fetches)
     where
       go : (t u : Bool) → cond ((t || true) && u) (let_go b) b ≡ cond u (let_go b) b
       go true true = refl
@@ -200,10 +198,10 @@ module _ (cells per_km : ℕ) (cs : List Call) (ps : List Pair) where
   pub stand : settings.in_range standing ≡ true
   stand = (bounds cells per_km cs).settings.0
 
-  pub why_44 : (at : ℕ) → (written_to standing ps).outcome ≡ Refused (OutOfRange at) → why.Outside standing stand ps at
+  pub why_44 : (at : ℕ) → come_to (written_to standing ps) ≡ Refused (OutOfRange at) → why.Outside standing stand ps at
   why_44 = why.why_44 standing stand ps
 
-  pub why_45 : ((written_to standing ps).outcome ≡ Refused OutOfOrder)
+  pub why_45 : (come_to (written_to standing ps) ≡ Refused OutOfOrder)
       ↔ (AllFit (why.final standing stand ps)
       × (settings.ordered (settings.settings_in (drafted_of (settings.draft_of standing) ps)) ≡ false))
   why_45 = why.why_45 standing stand ps

@@ -19,9 +19,7 @@ use lib.Dec.{eqb, ltb}
 use lib.ListN.{length, get_or, set, replicate}
 use Rattle.laws.specs.History.{any}
 use Rattle.refusals.specs.declared.Refusal.TheVariants.{WrongField, NoFrameHeld, WrongArea}
-use Rattle.refusals.specs.declared.Outcome.{Outcome}
-use Rattle.refusals.specs.declared.Outcome.TheVariants.{Done, Refused}
-use Rattle.refusals.specs.Refusals.{number_of, is_done}
+use Rattle.refusals.specs.Refusals.{Outcome, Done, Refused, number_of, is_done}
 use Rattle.readings.specs.Readings.{no_readings}
 use Rattle.receiver.specs.Receiver.{no_bytes, with_byte}
 use Rattle.settings.specs.Settings.{factory}

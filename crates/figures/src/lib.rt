@@ -2,13 +2,12 @@
 // no room there is not put at all, and the place stays. A tick is a tenth of a second.
 #![tactic(auto)]
 
-ghost use Rattle.std.specs.Prelude.{true, false, ◌≡◌, ◌+◌, ◌^◌, ◌≤◌, length};
+ghost use Rattle.std.specs.Prelude.{true, false, ◌≡◌, ◌+◌, ◌≤◌, length};
 ghost use Rattle.text.specs.Digits.{digit, Put, Wrote};
 ghost use Rattle.figures.specs.Figures.{comma_text, grouped_text, count_text, whole_text, last_digits, decimals_text};
 ghost use Rattle.figures.specs.Figures.{minus_text, figure_text, clock_text, time_text, part_text, pair_text, seconds_text};
 ghost use Rattle.figures.specs.Figures.{long_text, duration_text, whole_duration_text};
 
-use numbers::lesser;
 use text::{put, put_decimal, put_text};
 
 // Every text has room here.
@@ -23,6 +22,8 @@ const HOUR: u64 = 36000;
 
 const DAY: u64 = 864000;
 
+// Each text is put together in a room of its own first, by the same three lines: a closure's contract would be longer than they are.
+
 // A number with a comma between each three digits.
 pub fn put_count(out: &mut [u8], at: usize, number: u64) -> usize
     ensures { Put out.old at (count_text number) result out.new }
@@ -36,17 +37,28 @@ pub fn put_count(out: &mut [u8], at: usize, number: u64) -> usize
 pub fn put_figure(out: &mut [u8], at: usize, is_negative: bool, size: u64, places: usize) -> usize
     ensures { Put out.old at (figure_text true is_negative size places) result out.new }
 {
-    let mut text = [0u8; ROOM];
-    let end = write_figure(&mut text, 0, true, is_negative, size, places);
-    put_text(out, at, &text[..end])
+    put_any_figure(out, at, true, is_negative, size, places)
 }
 
 // The same without commas.
 pub fn put_plain(out: &mut [u8], at: usize, is_negative: bool, size: u64, places: usize) -> usize
     ensures { Put out.old at (figure_text false is_negative size places) result out.new }
 {
+    put_any_figure(out, at, false, is_negative, size, places)
+}
+
+fn put_any_figure(
+    out: &mut [u8],
+    at: usize,
+    has_commas: bool,
+    is_negative: bool,
+    size: u64,
+    places: usize,
+) -> usize
+    ensures { Put out.old at (figure_text has_commas is_negative size places) result out.new }
+{
     let mut text = [0u8; ROOM];
-    let end = write_figure(&mut text, 0, false, is_negative, size, places);
+    let end = write_figure(&mut text, 0, has_commas, is_negative, size, places);
     put_text(out, at, &text[..end])
 }
 
@@ -158,7 +170,7 @@ fn write_pair(out: &mut [u8], large: u64, unit: &[u8], small: u64, next: &[u8]) 
     write_part(out, rest, true, small, next)
 }
 
-// A number and its unit, where it is told.
+// A number and its unit, where it is told: a flag beside the number, as the parts of a text are told.
 fn write_part(out: &mut [u8], at: usize, is_told: bool, number: u64, unit: &[u8]) -> usize
     requires { (at + 32 ≤ length out.old) × (length unit.now ≤ 6) }
     ensures wrote { Wrote out.old at (part_text is_told number unit.now) result out.new }
@@ -193,9 +205,9 @@ fn write_figure(
     ensures wrote { Wrote out.old at (figure_text has_commas is_negative size places) result out.new }
     ensures upper_bound { result ≤ at + 32 }
 {
-    let held = lesser(places, MOST_PLACES);
+    let held = places.min(MOST_PLACES);
     let whole = write_minus(out, at, is_negative & (size != 0));
-    let point = write_whole(out, whole, has_commas, size / power_of_ten(held));
+    let point = write_whole(out, whole, has_commas, size / 10u64.pow(held as u32));
     write_decimals(out, point, size, held)
 }
 
@@ -250,11 +262,9 @@ fn write_grouped(out: &mut [u8], at: usize, digits: &[u8]) -> usize
     ensures { Wrote out.old at (grouped_text digits.now) result out.new }
 {
     let mut next = at;
-    let mut i = 0;
-    while i < digits.len() {
-        let comma = put(out, next, digits[i]);
-        i += 1;
-        next = write_comma(out, comma, digits.len() - i);
+    for (i, digit) in digits.iter().enumerate() {
+        let comma = put(out, next, *digit);
+        next = write_comma(out, comma, digits.len() - (i + 1));
     }
     next
 }
@@ -308,17 +318,4 @@ fn digit_of(number: u64) -> u8
     ensures { result ≡ digit number }
 {
     b'0' + ((number % 10) as u8)
-}
-
-fn power_of_ten(places: usize) -> u64
-    requires { places ≤ 4 }
-    ensures { (result ≡ 10 ^ places) × (1 ≤ result) }
-{
-    match places {
-        0 => 1,
-        1 => 10,
-        2 => 100,
-        3 => 1000,
-        _ => 10000,
-    }
 }

@@ -1,5 +1,3 @@
-pub mod Limits
-pub mod Told
 pub mod Switches
 pub mod CellRows
 pub mod Account

@@ -26,7 +26,7 @@ pub enum Condition {
 
 // A yes or no for each condition: that it holds, that it recovers, or that it is latched.
 #[repr(C)]
-#[derive(Clone, Copy)]
+#[derive(Clone, Copy, Default, PartialEq, Eq)]
 pub struct Conditions {
     pub uv: bool,
     pub ov: bool,
@@ -39,7 +39,7 @@ pub struct Conditions {
 
 // The ticks that are left to wait.
 #[repr(C)]
-#[derive(Clone, Copy)]
+#[derive(Clone, Copy, Default)]
 pub struct Waits {
     pub doc: u32,
     pub coc: u32,
@@ -55,14 +55,14 @@ pub struct Numbers {
 
 // Which externals were connected at any tick since OT latched; none while it is not latched. The internal sensor always is.
 #[repr(C)]
-#[derive(Clone, Copy)]
+#[derive(Clone, Copy, Default)]
 pub struct Remembered {
     pub external1: bool,
     pub external2: bool,
 }
 
 #[repr(C)]
-#[derive(Clone, Copy)]
+#[derive(Clone, Copy, Default)]
 pub struct Guard {
     pub latched: Conditions,
     pub waits: Waits,
@@ -74,29 +74,11 @@ impl Guard {
     pub fn none() -> Guard
         ensures { result ≡ no_guard }
     {
-        Guard {
-            latched: Conditions {
-                uv: false,
-                ov: false,
-                ot: false,
-                doc: false,
-                coc: false,
-                roc: false,
-                lt: false,
-            },
-            waits: Waits {
-                doc: 0,
-                coc: 0,
-                roc: 0,
-            },
-            remembered: Remembered {
-                external1: false,
-                external2: false,
-            },
-        }
+        Guard::default()
     }
 
     // A tick later.
+    #[tactic(auto, unfolding(crate::specs::Guard::guard_of))]
     pub fn next(self, settings: Settings, readings: Readings, extremes: Extremes) -> Guard
         ensures { result ≡ guard_of self settings readings extremes }
     {
@@ -115,6 +97,7 @@ impl Guard {
 
 impl Conditions {
     // One condition's yes or no.
+    #[tactic(auto, unfolding(crate::specs::Table::is))]
     pub fn of(self, condition: Condition) -> bool
         ensures { result ≡ is self condition }
     {
@@ -130,6 +113,7 @@ impl Conditions {
     }
 
     // A latched condition turns the charge switch off.
+    #[tactic(auto, unfolding(crate::specs::Table::charge_off))]
     pub fn charge_off(self) -> bool
         ensures { result ≡ charge_off self }
     {
@@ -137,6 +121,7 @@ impl Conditions {
     }
 
     // A latched condition turns the discharge switch off.
+    #[tactic(auto, unfolding(crate::specs::Table::discharge_off))]
     pub fn discharge_off(self) -> bool
         ensures { result ≡ discharge_off self }
     {
@@ -144,6 +129,7 @@ impl Conditions {
     }
 
     // Any condition but LT is latched.
+    #[tactic(auto, unfolding(crate::specs::Table::faulty))]
     pub fn is_faulty(self) -> bool
         ensures { result ≡ faulty self }
     {
@@ -151,6 +137,8 @@ impl Conditions {
     }
 
     // The number of the event that a condition records when the latches go from these to `after`; 0 for none.
+    // A plain number: the record of events holds numbers, of which 0 is no event's.
+    #[tactic(auto, unfolding(crate::specs::Table::event_of))]
     pub fn event(self, after: Conditions, condition: Condition) -> u8
         ensures { result ≡ event_of self after condition }
     {
@@ -167,6 +155,7 @@ impl Conditions {
     }
 
     // Each latching when it holds and recovering when latched and its recovery holds.
+    #[tactic(auto, unfolding(crate::specs::Guard::latched_of))]
     fn next(self, holds: Conditions, recovers: Conditions) -> Conditions
         ensures { result ≡ latched_of self holds recovers }
     {
@@ -183,13 +172,15 @@ impl Conditions {
 }
 
 impl Waits {
+    #[tactic(auto, unfolding(crate::specs::Guard::waits_of))]
     fn next(self, settings: Settings, holds: Conditions) -> Waits
         ensures { result ≡ waits_of settings holds self }
     {
-        let doc = wait_left(settings, holds.doc, self.doc);
-        let coc = wait_left(settings, holds.coc, self.coc);
-        let roc = wait_left(settings, holds.roc, self.roc);
-        Waits { doc, coc, roc }
+        Waits {
+            doc: wait_left(settings, holds.doc, self.doc),
+            coc: wait_left(settings, holds.coc, self.coc),
+            roc: wait_left(settings, holds.roc, self.roc),
+        }
     }
 }
 
@@ -198,11 +189,9 @@ impl Remembered {
     fn with_connected(self, readings: Readings) -> Remembered
         ensures { result ≡ with_connected self readings }
     {
-        let first = readings::is_connected(readings.external1);
-        let second = readings::is_connected(readings.external2);
         Remembered {
-            external1: first | self.external1,
-            external2: second | self.external2,
+            external1: readings::is_connected(readings.external1) | self.external1,
+            external2: readings::is_connected(readings.external2) | self.external2,
         }
     }
 
@@ -221,31 +210,31 @@ fn wait_left(settings: Settings, holds: bool, left: u32) -> u32
     ensures { result ≡ wait_of settings holds left }
 {
     if holds {
-        return 10 * (settings.r332 as u32);
+        10 * u32::from(settings.r332)
+    } else {
+        left.saturating_sub(1)
     }
-    less(left, 1)
 }
 
-// The column 'Holds'.
+// The column 'Holds'. The three by themselves: a struct of them would only repeat each field of the board.
+#[tactic(auto, unfolding(crate::specs::Guard::holds_of))]
 pub fn holding(settings: Settings, readings: Readings, extremes: Extremes) -> Conditions
     ensures { result ≡ holds_of settings readings extremes }
 {
-    let ot = is_sensor_hot(settings, readings);
-    let doc = is_drawn_too_much(settings, readings);
     let fed = is_fed_too_much(settings, readings);
-    let lt = is_external_cold(settings, readings);
     Conditions {
-        uv: (extremes.lowest as u32) <= 10 * (settings.r316 as u32),
-        ov: 10 * (settings.r315 as u32) <= (extremes.highest as u32),
-        ot,
-        doc,
+        uv: u32::from(extremes.lowest) <= 10 * u32::from(settings.r316),
+        ov: 10 * u32::from(settings.r315) <= u32::from(extremes.highest),
+        ot: is_sensor_hot(settings, readings),
+        doc: is_drawn_too_much(settings, readings),
         coc: readings.charger & fed,
         roc: !readings.charger & fed,
-        lt,
+        lt: is_external_cold(settings, readings),
     }
 }
 
 // The column 'Recovers'; a wait is over when nothing is left of it.
+#[tactic(auto, unfolding(crate::specs::Guard::recovers_of))]
 pub fn recovering(
     settings: Settings,
     readings: Readings,
@@ -255,25 +244,21 @@ pub fn recovering(
 ) -> Conditions
     ensures { result ≡ recovers_of settings readings extremes left remembered }
 {
-    let ov = are_cells_low_enough(settings, extremes);
-    let ot = are_remembered_cool(settings, readings, remembered);
-    let lt = are_externals_mild(settings, readings);
     Conditions {
-        uv: 10 * (settings.r316 as u32) < (extremes.lowest as u32),
-        ov,
-        ot,
+        uv: 10 * u32::from(settings.r316) < u32::from(extremes.lowest),
+        ov: are_cells_low_enough(settings, extremes),
+        ot: are_remembered_cool(settings, readings, remembered),
         doc: left.doc == 0,
         coc: left.coc == 0,
         roc: left.roc == 0,
-        lt,
+        lt: are_externals_mild(settings, readings),
     }
 }
 
 fn are_cells_low_enough(settings: Settings, extremes: Extremes) -> bool
     ensures { result ≡ cells_low_enough settings extremes }
 {
-    let limit = less(10 * (settings.r315 as u32), 500);
-    (extremes.highest as u32) < limit
+    u32::from(extremes.highest) < (10 * u32::from(settings.r315)).saturating_sub(500)
 }
 
 fn is_sensor_hot(settings: Settings, readings: Readings) -> bool
@@ -314,43 +299,46 @@ fn are_externals_mild(settings: Settings, readings: Readings) -> bool
     (one | two) & (first & second)
 }
 
+// The table's four tests of a temperature, each of its own setting, side and distance.
+
 fn is_hot(settings: Settings, t: i16) -> bool
     ensures { result ≡ hot settings t }
 {
-    times(10, settings.r319) <= signed::wide(t)
+    10 * i32::from(settings.r319) <= i32::from(t)
 }
 
 fn is_cool(settings: Settings, t: i16) -> bool
     ensures { result ≡ cool settings t }
 {
-    signed::wide(t) < cool_limit(settings.r319)
+    i32::from(t) < 10 * i32::from(settings.r319) - 50
 }
 
 fn is_cold(settings: Settings, t: i16) -> bool
     ensures { result ≡ cold settings t }
 {
-    signed::wide(t) <= tenfold(settings.r320)
+    i32::from(t) <= 10 * i32::from(settings.r320)
 }
 
 fn is_mild(settings: Settings, t: i16) -> bool
     ensures { result ≡ mild settings t }
 {
-    mild_limit(settings.r320) < signed::wide(t)
+    10 * i32::from(settings.r320) + 50 < i32::from(t)
 }
 
 fn is_drawn_too_much(settings: Settings, readings: Readings) -> bool
     ensures { result ≡ drawn_too_much settings readings }
 {
-    readings.current <= minus_times(1000, settings.r317)
+    readings.current <= -1000 * i32::from(settings.r317)
 }
 
 fn is_fed_too_much(settings: Settings, readings: Readings) -> bool
     ensures { result ≡ fed_too_much settings readings }
 {
-    times(1000, settings.r318) <= readings.current
+    1000 * i32::from(settings.r318) <= readings.current
 }
 
 // The table's events: at latching, at recovery.
+#[tactic(auto, unfolding(crate::specs::Table::latch_event, crate::specs::Table::recovery_event))]
 fn events_of(condition: Condition) -> Numbers
     ensures { (result.latching ≡ latch_event condition) × (result.recovery ≡ recovery_event condition) }
 {
@@ -384,45 +372,4 @@ fn events_of(condition: Condition) -> Numbers
             recovery: 0x74,
         },
     }
-}
-
-// One less than, down to 0.
-fn less(a: u32, b: u32) -> u32
-    ensures { result ≡ a - b }
-{
-    if b < a { a - b } else { 0 }
-}
-
-// Limits as signed numbers: the settings are in °C and A, the readings in 0.1 °C and mA.
-
-fn times(factor: u16, setting: u16) -> i32
-    requires { Prim.Native.Nat.◌≤◌ factor 1000 }
-    ensures { result ≡ pos (factor * setting) }
-{
-    ((factor as u32) * (setting as u32)) as i32
-}
-
-fn minus_times(factor: u16, setting: u16) -> i32
-    requires { Prim.Native.Nat.◌≤◌ factor 1000 }
-    ensures { result ≡ neg_ℤ (pos (factor * setting)) }
-{
-    0 - times(factor, setting)
-}
-
-fn cool_limit(r319: u16) -> i32
-    ensures { result ≡ pos (10 * r319) -ℤ pos 50 }
-{
-    times(10, r319) - 50
-}
-
-fn tenfold(r320: i16) -> i32
-    ensures { result ≡ pos 10 *ℤ r320 }
-{
-    10 * (r320 as i32)
-}
-
-fn mild_limit(r320: i16) -> i32
-    ensures { result ≡ pos 10 *ℤ r320 +ℤ pos 50 }
-{
-    tenfold(r320) + 50
 }

@@ -32,7 +32,7 @@ pub struct Hire {
     pub window: [u16; 10], // the pulses of the last ten ticks, the latest last
     pub events: Events,
     pub statistics: Statistics,
-    pub status: u16,
+    pub status: u16, // register 50; its number, as C holds it
     pub decision: u16, // register 51
     pub balancing: u16, // register 52
     pub charge: bool, // the switches
@@ -42,6 +42,7 @@ pub struct Hire {
 
 impl Hire {
     // Everything at its start value; only the lifetime enters, as that of the clear.
+    #[tactic(auto, unfolding(crate::specs::Hire::new_hire))]
     pub fn new(lifetime: u32) -> Hire
         ensures { result ≡ new_hire lifetime }
     {

@@ -18,15 +18,14 @@ impl Hire {
         let count = numbers::up_to_127(count);
         let first = from as u16;
         let mut words = [0; WORDS];
-        let mut i: u16 = 0;
-        while i < count {
+        for i in 0..count {
             words[i as usize] = self.register(lifetime, per_km, first + i);
-            i += 1;
         }
         words
     }
 
     // Registers 0 to 55; 0 past them.
+    #[tactic(auto, unfolding(crate::specs::Registers::reading_register))]
     fn register(self, lifetime: u32, per_km: u16, at: u16) -> u16
         ensures { result ≡ reading_register self lifetime per_km at }
     {
@@ -68,10 +67,8 @@ impl Sensed {
     {
         let count = numbers::up_to_127(count);
         let mut words = [0; WORDS];
-        let mut i: u16 = 0;
-        while i < count {
+        for i in 0..count {
             words[i as usize] = self.temperature(i);
-            i += 1;
         }
         words
     }

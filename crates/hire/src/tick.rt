@@ -15,6 +15,7 @@ use readings::Readings;
 pub const EVENTS: usize = 8;
 
 impl Hire {
+    #[tactic(auto, unfolding(crate::specs::Tick::readings_of))]
     pub fn keep_readings(self, cells: &[u16], readings: Readings, extremes: Extremes) -> Hire
         ensures { result ≡ readings_of self cells.now readings extremes }
     {
@@ -31,6 +32,7 @@ impl Hire {
         hire
     }
 
+    #[tactic(auto, unfolding(crate::specs::Tick::speed_and_distance_of))]
     pub fn ride(self, pulses: u16) -> Hire
         ensures { result ≡ speed_and_distance_of self pulses }
     {
@@ -48,14 +50,13 @@ impl Hire {
         ensures { result ≡ record_of self seconds numbers }
     {
         let mut events = self.events;
-        let mut i = 0;
-        while i < EVENTS {
-            events = recorded(events, seconds, numbers[i]);
-            i += 1;
+        for number in numbers {
+            events = recorded(events, seconds, number);
         }
         self.with_events(events)
     }
 
+    #[tactic(auto, unfolding(crate::specs::Tick::status_of))]
     pub fn set_status(self, latched: Conditions, readings: Readings) -> Hire
         ensures { result ≡ status_of self latched readings }
     {
@@ -66,6 +67,7 @@ impl Hire {
     }
 
     // With early balancing from r303, a disbalance of r308, and OV latched or not.
+    #[tactic(auto, unfolding(crate::specs::Tick::balancing_of))]
     pub fn balance(self, cells: &[u16], r303: u16, r308: u16, ov: bool) -> Hire
         ensures { result ≡ balancing_of self cells.now r303 r308 ov }
     {
@@ -79,6 +81,7 @@ impl Hire {
     }
 
     // The latches and the status as they were before the tick, and the latches after it.
+    #[tactic(auto, unfolding(crate::specs::Tick::statistics_of))]
     pub fn count(
         self,
         readings: Readings,
@@ -97,6 +100,7 @@ impl Hire {
     }
 
     // With the ignition setting r334.
+    #[tactic(auto, unfolding(crate::specs::Tick::switches_of))]
     pub fn switch(self, latched: Conditions, r334: u16, readings: Readings) -> Hire
         ensures { result ≡ switches_of self latched r334 readings }
     {
@@ -110,8 +114,10 @@ impl Hire {
     }
 }
 
-// The events of a tick in the order in which they are recorded, 0 for none: the charger's, which was present at the tick before or is
+// The events of a tick in the order in which they are recorded, 0 for none (Tick.events_of, and the account of a life over it, count by these
+// numbers): the charger's, which was present at the tick before or is
 // now, and the conditions' in the table's order, where the latches were `before` and are `after`.
+#[tactic(auto, unfolding(crate::specs::Tick::events_of))]
 pub fn events_of(was: bool, is: bool, before: Conditions, after: Conditions) -> [u8; EVENTS]
     ensures { result ≡ events_of was is before after }
 {
@@ -145,6 +151,7 @@ fn recorded(events: Events, seconds: u32, number: u8) -> Events
     events.add(seconds, number)
 }
 
+#[tactic(auto, unfolding(crate::specs::Tick::status_for))]
 fn status_for(latched: Conditions, readings: Readings) -> u16
     ensures { result ≡ status_for latched readings }
 {

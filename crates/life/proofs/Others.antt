@@ -1,15 +1,15 @@
 -- "Clears, frames, loads and recalls change no switch": each of these calls does neither a tick nor a handover, on any board; so on every
 -- behaviour that meets the switch fact it shows the switches as the call before it did. A clear is a frame, or is fetched off the raw line.
 -- Assumes nothing.
+use Rattle.std.specs.Prelude.{Err, Ok}
 use mathlib.Core.Path.{◌≡◌, refl, ap, ◌∙◌}
 use mathlib.Core.Bool.{Bool, true, false, ◌&&◌, cond, and-false}
 use mathlib.Core.List.{List, [], ◌∷◌}
 use Prim.Native.Nat.{ℕ}
 use Rattle.laws.specs.History.{any}
 use Rattle.refusals.specs.Refusals.{is_done}
-use Rattle.requests.specs.declared.Request.{Request}
 use Rattle.requests.specs.declared.Request.TheVariants as request
-use Rattle.requests.specs.Requests.{request_of, marks}
+use Rattle.requests.specs.Requests.{request_of, marks, Asked}
 use Rattle.board.specs.declared.Board.{Board}
 use Rattle.board.specs.Line.{held_in}
 use Rattle.board.specs.Changes.{asked_deeds}
@@ -24,13 +24,13 @@ abbrev pub Unswitching : Call → Type 0
 Unswitching c = (b : Board) → any turns ((shape c).deeds b) ≡ false
 
 -- whatever a request asks
-asked : (s : List ℕ) (q : Request) → any turns (asked_deeds s q) ≡ false
+asked : (s : List ℕ) (q : Asked) → any turns (asked_deeds s q) ≡ false
 unfolding asked_deeds
-asked s (request.Refused refusal) = refl
-asked s request.ClearEvents = refl
-asked s request.ClearStatistics = refl
-asked s (request.Write f n) = refl
-asked s (request.Read q) = go (marks q)
+asked s (Err refusal) = refl
+asked s (Ok request.ClearEvents) = refl
+asked s (Ok request.ClearStatistics) = refl
+asked s (Ok (request.Write f n)) = refl
+asked s (Ok (request.Read q)) = go (marks q)
   where
     go : (t : Bool) → any turns (cond t (sent ∷ []) []) ≡ false
     go true = refl

@@ -11,9 +11,7 @@ use lib.Dec.{eqb}
 use lib.ListN.{length, length-append}
 use Rattle.laws.specs.History.{never, some, any, since, each, head_or}
 use Rattle.laws.proofs.Latch.{wrong}
-use Rattle.refusals.specs.declared.Outcome.{Outcome}
-use Rattle.refusals.specs.declared.Outcome.TheVariants.{Done}
-use Rattle.refusals.specs.Refusals.{is_done}
+use Rattle.refusals.specs.Refusals.{Outcome, Done, is_done}
 use Rattle.guard.specs.declared.Condition.{Condition}
 use Rattle.guard.specs.Table.{is, charge_off, discharge_off}
 use Rattle.guard.specs.Account.{Moment}

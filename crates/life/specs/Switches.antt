@@ -3,8 +3,7 @@
 -- Assumes nothing.
 use Rattle.std.specs.Prelude.{◌≡◌, Bool, true, false, ◌&&◌, ◌||◌, List, [], ◌∷◌, ◌++◌, map, ℕ, eqb}
 use Rattle.laws.specs.History.{some, any}
-use Rattle.refusals.specs.declared.Outcome.TheVariants.{Done}
-use Rattle.refusals.specs.Refusals.{is_done}
+use Rattle.refusals.specs.Refusals.{Done, is_done}
 use Rattle.guard.specs.declared.Condition.{Condition}
 use Rattle.guard.specs.Table.{names_charge, names_discharge}
 use Rattle.readings.specs.declared.Readings.{Readings}

@@ -4,7 +4,7 @@
 use mathlib.Core.Path.{◌≡◌}
 use mathlib.Core.List.{List}
 use Prim.Native.Nat.{ℕ}
-use Rattle.refusals.specs.declared.Outcome.TheVariants.{Done}
+use Rattle.refusals.specs.Refusals.{Done}
 use Rattle.facts.proofs.SerialLine.{Serves, serves}
 use Rattle.recording.specs.Recording.{open_of, played_of}
 use Rattle.recording.proofs.Kept.{ready}

@@ -2,7 +2,7 @@
 #![tactic(auto)]
 
 use board::Board;
-use player::{BLOCK, Played, Reading, next_block, on_from, put_progress};
+use player::{BLOCK, Reading, next_block, on_from, put_progress};
 use std::env::{Env, FillError};
 use std::fs::File;
 use std::io::{IsTerminal, Read, Write};
@@ -43,11 +43,7 @@ fn is_given<R: Env>(rt: &R, at: usize) -> bool {
 // What has been played of the recording that word 1 names.
 fn named_played<R: Env + Files, M: Write + IsTerminal>(rt: &R, messages: &mut M) -> Reading {
     match named(rt) {
-        Some(mut file) => {
-            let mut block = [0u8; BLOCK];
-            let start = player::opening(&mut file);
-            all_played(start, &mut file, messages, &mut block)
-        }
+        Some(mut file) => all_played(&mut file, messages),
         None => player::unread(),
     }
 }
@@ -68,39 +64,35 @@ fn serve_after<I: Read, O: Write, M: Write>(
     output: &mut O,
     messages: &mut M,
 ) {
-    let played = reading.played;
-    let ran = played.ran;
-    if reading.is_unread() | !ran.is_done() {
-        player::tell_of(messages, b"line", reading, true);
-    }
-    if played.is_open & !reading.is_unread() {
-        listen(ran.board, input, output, messages);
+    match reading.played {
+        Ok(ran) if !reading.is_unread() => {
+            if ran.outcome.is_err() {
+                player::tell_of(messages, b"line", reading, true);
+            }
+            listen(ran.board, input, output, messages);
+        }
+        _ => player::tell_of(messages, b"line", reading, true),
     }
 }
 
 // Until the recording ends, is refused or cannot be read; no run uses up so many turns.
-fn all_played<R: Read, M: Write + IsTerminal>(
-    start: Reading,
-    file: &mut R,
-    messages: &mut M,
-    block: &mut [u8],
-) -> Reading {
-    let opened = start.played;
-    let mut ran = opened.ran;
-    let mut turns = u64::MAX;
-    let mut got = next_block(start.is_read, file, block);
-    while 0 < turns && 0 < got.count && ran.is_done() {
-        let count = got.count;
-        ran = on_from(ran, &block[0..count], usize::MAX);
-        put_progress(messages, ran.accepted, turns);
-        got = next_block(got.is_well, file, block);
-        turns -= 1;
+fn all_played<R: Read, M: Write + IsTerminal>(file: &mut R, messages: &mut M) -> Reading {
+    let mut block = [0u8; BLOCK];
+    let mut reading = player::opening(file);
+    for turn in 1..u64::MAX {
+        let got = next_block(reading.is_read, file, &mut block);
+        reading.is_read = got.is_well;
+        let Ok(ran) = reading.played else {
+            break;
+        };
+        if got.count == 0 || ran.outcome.is_err() {
+            break;
+        }
+        let next = on_from(ran, &block[..got.count], usize::MAX);
+        reading.played = Ok(next);
+        put_progress(messages, next.accepted, turn);
     }
-    let is_open = opened.is_open;
-    Reading {
-        played: Played { is_open, ran },
-        is_read: got.is_well,
-    }
+    reading
 }
 
 // Until the line ends, cannot be read, or a reply cannot be written. A proved loop has to end, and nothing says that the input does: no run
@@ -112,17 +104,18 @@ fn listen<I: Read, O: Write, M: Write>(
     messages: &mut M,
 ) {
     let mut board = start;
+    let mut is_read = true;
     let mut is_written = true;
     let mut block = [0u8; READ];
-    let mut turns = u64::MAX;
-    let mut got = read(true, input, &mut block);
-    while 0 < turns && 0 < got.count {
-        let count = got.count;
-        let next = port::serve(board, &block[0..count], output);
+    for _ in 0..u64::MAX {
+        let got = read(is_written, input, &mut block);
+        is_read = got.is_well;
+        if got.count == 0 {
+            break;
+        }
+        let next = port::serve(board, &block[..got.count], output);
         board = next.board;
         is_written = next.is_written;
-        got = read(is_written, input, &mut block);
-        turns -= 1;
     }
-    tell_failure(messages, b"line", got.is_well, is_written);
+    tell_failure(messages, b"line", is_read, is_written);
 }

@@ -15,7 +15,7 @@ pub struct Live {
     pub amps: f32,
 }
 
-// Speed is either km/h or "no wheel sensor".
+// Speed is either km/h or "no wheel sensor": the paper names both, so they are cases of its own and no Option.
 #[derive(Clone, Copy)]
 pub enum Speed {
     NoSensor,
@@ -70,6 +70,7 @@ impl Speed {
     }
 
     // What registers 54 and 55 hold.
+    #[tactic(auto, unfolding(crate::specs::Live::speed_bits_of))]
     pub fn shown(self) -> u32
         ensures { result ≡ speed_bits_of self }
     {
@@ -81,36 +82,26 @@ impl Speed {
 }
 
 // The window a tick later: the oldest count goes, the new one is last.
-pub fn next_window(window: [u16; 10], pulses: u16) -> [u16; 10]
+#[tactic(auto, unfolding(laws::specs::Fold::shifted))]
+pub fn next_window(mut window: [u16; 10], pulses: u16) -> [u16; 10]
     ensures { result ≡ shifted window pulses }
 {
-    let mut counts = window;
-    let mut i = 0;
-    while i < 9 {
-        counts[i] = counts[i + 1];
-        i += 1;
-    }
-    counts[9] = pulses;
-    counts
+    window.copy_within(1.., 0);
+    window[9] = pulses;
+    window
 }
 
 // A whole number below 2^24 is cast with no loss; no accepted tick brings more.
 fn whole(n: u32) -> f32
     ensures { result ≡ of_int binary32 (exact (pos n)) }
 {
-    if n < 16777216 { n as f32 } else { 16777216.0 }
+    n.min(16777216) as f32
 }
 
 fn whole_signed(n: i32) -> f32
     ensures { result ≡ of_int binary32 (exact n) }
 {
-    if n < -16777216 {
-        return -16777216.0;
-    }
-    if 16777216 < n {
-        return 16777216.0;
-    }
-    n as f32
+    n.clamp(-16777216, 16777216) as f32
 }
 
 // The one division.
@@ -120,8 +111,9 @@ fn divided(n: f32, d: u16) -> f32
     n / (d as f32)
 }
 
+#[tactic(auto, unfolding(crate::specs::Live::bits_of))]
 fn bits(x: f32) -> u32
     ensures { result ≡ bits_of x }
 {
-    if x != x { 0 } else { f32::to_bits(x) }
+    if x.is_nan() { 0 } else { x.to_bits() }
 }

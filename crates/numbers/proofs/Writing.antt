@@ -7,9 +7,11 @@ use native.Mathlib.Nat.{not-suc-le-zero, add-zero, mul_assoc, pow-succ', mod-lt,
 use native.Mathlib.Omega.{arith}
 use borrow.Author.Tests.{leb-true, leb-false}
 use lib.Dec.{leb}
-use lib.ListN.{length, get_or, set, get_or-eq_default}
-use lib.Seq.{sets, length-sets, set_out}
-use Rattle.numbers.specs.Numbers.{low_first, le16, le32, le64, Wrote}
+use Rattle.std.proofs.Common.{◌≢◌, below_more, get_or-set_other, get_or-set_same}
+use native.Mathlib.Numerals.{add-one}
+use lib.ListN.{length, get_or, set, take, get_or-eq_default}
+use lib.Seq.{sets, length-sets, set_out, take-suc, length-take-le}
+use Rattle.numbers.specs.Numbers.{low_first, le16, le32, Wrote}
 
 -- ---- what is put
 
@@ -68,18 +70,6 @@ module _ {A : Type 0} (f : ℕ → A) (a : A) (end : ℕ) (same-past : (at : ℕ
       go true e = let h = leb-true end at e in same-past (min end at) (omega arith) ∙ sym (same-past at h)
       go false e = let h = leb-false end at e in ap f (let m : min end at ≡ at = omega arith in m)
 
-pub read_up_to : (l : List ℕ) (at d : ℕ) → get_or l (min (length l) at) d ≡ get_or l at d
-read_up_to l at d = up_to (λ (n : ℕ). get_or l n d) d (length l) (λ n h. get_or-eq_default l d {n = n} h) at
-
-pub put_up_to : (l xs : List ℕ) (at : ℕ) → sets l (min (length l) at) xs ≡ sets l at xs
-put_up_to l xs = up_to (λ (n : ℕ). sets l n xs) l (length l) (past l xs)
-
--- so the second write may begin there
-pub next : {l₀ l₁ l₂ xs ys zs : List ℕ} {at to : ℕ} → Wrote l₀ at xs l₁ → Wrote l₁ to ys l₂ → to ≡ min (length l₁) (at + length xs)
-    → xs ++ ys ≡ zs → Wrote l₀ at zs l₂
-next {l₀} {l₁} {l₂} {xs} {ys} {at = at} p q e z =
-    rw (← z) (join_at p (record { wrote = q.wrote ∙ ap (λ (n : ℕ). sets l₁ n ys) e ∙ put_up_to l₁ ys (at + length xs) }) refl)
-
 -- ---- a number's bytes are those of its low part, and then those of its high part
 
 parts : (k m w r q : ℕ) → w ≡ k + m → r < 256 ^ suc k
@@ -104,9 +94,34 @@ pub in_parts : (k m w n : ℕ) → w ≡ k + m → 0 < 256 ^ suc k
 in_parts k m w n e h =
     sym (parts k m w (n % 256 ^ suc k) (n / 256 ^ suc k) e (mod-lt n h)) ∙ ap (low_first (suc (suc w))) (mod-add-div n (256 ^ suc k))
 
--- of 32 bits, and of 64
+-- of 32 bits
 pub of_32 : (low high n : ℕ) → low ≡ n % 65536 → high ≡ n / 65536 → le16 low ++ le16 high ≡ le32 n
 of_32 low high n l h = ap₂ (λ (a b : ℕ). le16 a ++ le16 b) l h ∙ in_parts 1 1 2 n refl (omega arith)
 
-pub of_64 : (low high n : ℕ) → low ≡ n % 4294967296 → high ≡ n / 4294967296 → le32 low ++ le32 high ≡ le64 n
-of_64 low high n l h = ap₂ (λ (a b : ℕ). le32 a ++ le32 b) l h ∙ in_parts 3 3 6 n refl (omega arith)
+-- a place past the largest that a number of 64 bits names is past the end of any list that has a place of it for each element
+pub largest : (l : List ℕ) (at i d : ℕ) → length l < 18446744073709551616
+    → get_or l (min (at + i) 18446744073709551615) d ≡ get_or l (at + i) d
+largest l at i d h =
+    let other : min (at + i) 18446744073709551615 ≡ min 18446744073709551615 (at + i) = omega arith in
+    ap (λ (n : ℕ). get_or l n d) other
+    ∙ up_to (λ (n : ℕ). get_or l n d) d 18446744073709551615 (λ n m. get_or-eq_default l d {n = n} (omega arith)) (at + i)
+
+-- one more byte of a row
+pub one_more : (l row : List ℕ) (at i b d : ℕ) → i < length row → b ≡ get_or l (at + i) d
+    → ((k : ℕ) → k < i → get_or row k 0 ≡ get_or l (at + k) d) → (k : ℕ) → k < i + 1 → get_or (set row i b) k 0 ≡ get_or l (at + k) d
+one_more l row at i b d h e before =
+    below_more _ i (λ k m. let ne : k ≢ i = omega arith in rw get_or-set_other (before k m)) (rw get_or-set_same e)
+
+-- one more byte of a row is put
+pub one_put : {l₀ l₁ l₂ : List ℕ} {at b : ℕ} (row : List ℕ) (i to : ℕ) → Wrote l₀ at (take i row) l₁ → Wrote l₁ to (b ∷ []) l₂
+    → to ≡ min (at + i) 18446744073709551615 → i < length row → b ≡ get_or row i 0 → length l₁ < 18446744073709551616
+    → Wrote l₀ at (take (i + 1) row) l₂
+one_put {l₀} {l₁} {l₂} {at} {b} row i to p q e h m s =
+    let long : length (take i row) ≡ i = length-take-le i row (omega arith) in
+    let place : to ≡ min 18446744073709551615 (at + length (take i row)) = omega arith in
+    let there : sets l₁ to (b ∷ []) ≡ sets l₁ (at + length (take i row)) (b ∷ []) =
+    ap (λ (n : ℕ). sets l₁ n (b ∷ [])) place
+    ∙ up_to (λ (n : ℕ). sets l₁ n (b ∷ [])) l₁ 18446744073709551615 (λ n k. past l₁ (b ∷ []) n (omega arith)) (at + length (take i row)) in
+    let r : take (i + 1) row ≡ take i row ++ (b ∷ []) =
+    ap (λ (n : ℕ). take n row) (add-one i) ∙ take-suc row i 0 h ∙ ap (λ (x : ℕ). take i row ++ (x ∷ [])) (sym m) in
+    rw r (join_at p (record { wrote = q.wrote ∙ there }) refl)

@@ -31,6 +31,7 @@ pub struct Pack {
 
 impl Pack {
     // As it is started: factory settings, nothing latched, no time gone.
+    #[tactic(auto, unfolding(crate::specs::Pack::new_pack))]
     pub fn new(cells: u8, per_km: u16) -> Pack
         ensures { result ≡ new_pack cells per_km }
     {
@@ -53,26 +54,25 @@ impl Pack {
     }
 
     // Done for a board that takes calls; a board that is none refuses them all.
+    #[tactic(auto, unfolding(refusals::specs::Refusals::first, crate::specs::Pack::start_outcome))]
     pub fn outcome(self) -> Outcome
         ensures { result ≡ start_outcome self }
     {
-        if self.is_usable() {
-            Outcome::Done
-        } else {
-            Outcome::Refused(Refusal::NoBoard)
+        if !self.is_usable() {
+            return Err(Refusal::NoBoard);
         }
+        Ok(())
     }
 
     // What a tick comes to that brings those readings and so many cells.
     pub fn tick_outcome(self, readings: Readings, given: usize) -> Outcome
         ensures { result ≡ tick_outcome self readings given }
     {
-        if !self.is_usable() {
-            return Outcome::Refused(Refusal::NoBoard);
-        }
+        self.outcome()?;
         readings.judged(self.cells as usize, self.per_km, given)
     }
 
+    #[tactic(auto, unfolding(crate::specs::Pack::time_of))]
     pub fn pass_time(self) -> Pack
         ensures { result ≡ time_of self }
     {
@@ -82,6 +82,7 @@ impl Pack {
         pack
     }
 
+    #[tactic(auto, unfolding(crate::specs::Pack::conditions_of))]
     pub fn guard_conditions(self, readings: Readings, extremes: Extremes) -> Pack
         ensures { result ≡ conditions_of self readings extremes }
     {

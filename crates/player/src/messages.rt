@@ -1,6 +1,7 @@
 // What is said of a recording on standard error: how far it is, and how it went.
 use crate::{Played, Reading};
-use refusals::{Outcome, Refusal};
+use recording::Ran;
+use refusals::Refusal;
 use std::io::{IsTerminal, Write};
 use streams::{tell, tell_number};
 
@@ -27,7 +28,7 @@ fn put_ticks<M: Write>(messages: &mut M, ticks: usize) {
 pub fn tell_of<M: Write>(messages: &mut M, name: &[u8], reading: Reading, is_written: bool) {
     tell(messages, name);
     tell(messages, b": ");
-    put_ticks(messages, reading.played.ran.accepted);
+    put_ticks(messages, reading.played.map_or(0, |ran| ran.accepted));
     if !is_written {
         tell(messages, b", standard output cannot be written");
     } else if reading.is_unread() {
@@ -39,22 +40,27 @@ pub fn tell_of<M: Write>(messages: &mut M, name: &[u8], reading: Reading, is_wri
 }
 
 fn put_outcome<M: Write>(messages: &mut M, played: Played) {
-    let ran = played.ran;
-    let outcome = ran.outcome;
-    match outcome {
-        Outcome::Done => {}
-        Outcome::Refused(refusal) => put_refusal(messages, refusal, played.is_open),
+    match played {
+        Err(refusal) => {
+            put_number(messages, refusal);
+            put_opening(messages, refusal);
+        }
+        Ok(
+            Ran {
+                outcome: Err(refusal),
+                ..
+            },
+        ) => {
+            put_number(messages, refusal);
+            put_end(messages, refusal);
+        }
+        Ok(_) => {}
     }
 }
 
-fn put_refusal<M: Write>(messages: &mut M, refusal: Refusal, is_open: bool) {
+fn put_number<M: Write>(messages: &mut M, refusal: Refusal) {
     tell(messages, b", ");
     tell_number(messages, refusal.number() as u64);
-    if is_open {
-        put_end(messages, refusal);
-    } else {
-        put_opening(messages, refusal);
-    }
 }
 
 // An opening is refused for one of three, and a run for one of two.

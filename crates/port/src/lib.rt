@@ -5,7 +5,6 @@ ghost use Rattle.std.specs.Prelude.{◌≡◌};
 ghost use Rattle.port.specs.Port.{Answers, served_of};
 
 use board::Board;
-use numbers::lesser;
 use std::io::Write;
 use streams::put;
 
@@ -20,7 +19,7 @@ pub struct Turn {
     pub board: Board,
 }
 
-// The board after what came, and whether every reply is written.
+// The board after what came, and whether every reply is written. No Result: the board has heard it either way.
 #[derive(Clone, Copy)]
 pub struct Listened {
     pub board: Board,
@@ -28,6 +27,7 @@ pub struct Listened {
 }
 
 // Every byte is taken, and each frame's reply is written as soon as the frame is complete; after one that cannot be written none is.
+#[tactic(auto, using(crate::proofs::Turns::begun, crate::proofs::Turns::none_left, crate::proofs::Turns::out_of_turns))]
 pub fn serve<W: Write>(start: Board, bytes: &[u8], output: &mut W) -> Listened
     ensures { result.board ≡ (served_of start bytes.now).board }
 {
@@ -35,15 +35,14 @@ pub fn serve<W: Write>(start: Board, bytes: &[u8], output: &mut W) -> Listened
     let mut is_written = true;
     let mut rest = bytes;
     let mut reply = [0u8; ROOM];
-    let mut turns = 0;
-    while turns <= bytes.len() && 0 < rest.len() {
+    for turns in 0..=bytes.len() {
+        if rest.is_empty() {
+            break;
+        }
         let turn = answer(board, rest, &mut reply);
-        let length = lesser(turn.length, ROOM);
-        is_written = put(is_written, output, &reply[0..length]);
+        is_written = put(is_written, output, &reply[..turn.length.min(ROOM)]);
         board = turn.board;
-        let taken = lesser(turn.taken, rest.len());
-        rest = &rest[taken..];
-        turns += 1;
+        rest = &rest[turn.taken.min(rest.len())..];
     }
     Listened { board, is_written }
 }
@@ -53,12 +52,10 @@ pub fn answer(board: Board, bytes: &[u8], reply: &mut [u8]) -> Turn
     ensures { Answers board bytes.now reply.old result reply.new }
 {
     let heard = board.offer(bytes);
-    let taken = heard.taken;
     let answer = heard.board.fetch(reply);
-    let board = answer.board;
     Turn {
-        taken,
+        taken: heard.taken,
         length: answers::length_in(reply),
-        board,
+        board: answer.board,
     }
 }

@@ -9,8 +9,7 @@ use native.Mathlib.Omega.{arith}
 use lib.ListN.{length, drop, get_or, drop_of_length-le}
 use lib.Seq.{drop-cons}
 use Rattle.refusals.specs.declared.Refusal.TheVariants.{FrameHeld}
-use Rattle.refusals.specs.declared.Outcome.TheVariants.{Done, Refused}
-use Rattle.refusals.specs.Refusals.{first}
+use Rattle.refusals.specs.Refusals.{Done, Refused, first}
 use Rattle.receiver.specs.declared.Receiver.{Receiver}
 use Rattle.receiver.specs.declared.Offered.{Offered}
 use Rattle.receiver.specs.Receiver.{is_held, with_byte, filled, taken, offered_by, offered_of}
@@ -53,9 +52,9 @@ stopped {r₀} {r} {xs} {i} f h w =
       count = let k = rw (drop-cons xs i 0, w) at f.count in omega (arith, k);
     }
 
-pub ended : {r₀ r : Receiver} {xs : List ℕ} {i : ℕ} → Filling r₀ r xs i → length xs ≤ i → Full r₀ r xs i
+pub ended : {r₀ r : Receiver} {xs : List ℕ} {i : ℕ} → Filling r₀ r xs i → length xs ≤ i → Full r₀ r xs (length xs)
 ended {r₀} {r} {xs} {i} f h =
     record {
       held = rw drop_of_length-le at f.held;
-      count = let k = rw drop_of_length-le at f.count in omega (arith, k);
+      count = let k = rw drop_of_length-le at f.count in omega (arith, k, f.within);
     }

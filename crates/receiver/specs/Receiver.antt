@@ -1,12 +1,10 @@
 -- W-201: a receiver that takes bytes up to the end of the first complete frame, says how many it took, and holds that frame. What stands in
 -- the array after the held bytes is told too.
 -- Assumes nothing.
-use Rattle.std.specs.Prelude.{Bool, cond, not, ◌&&◌, List, [], ◌∷◌, ◌++◌, ℕ, suc, eqb, leb, length, take, drop, replicate}
+use Rattle.std.specs.Prelude.{Bool, cond, not, ◌&&◌, List, [], ◌∷◌, ◌++◌, ℕ, suc, eqb, leb, length, take, drop, replicate, Ok, Err}
 use Rattle.refusals.specs.declared.Refusal.{Refusal}
 use Rattle.refusals.specs.declared.Refusal.TheVariants.{FrameHeld}
-use Rattle.refusals.specs.declared.Outcome.{Outcome}
-use Rattle.refusals.specs.declared.Outcome.TheVariants.{Done, Refused}
-use Rattle.refusals.specs.Refusals.{first}
+use Rattle.refusals.specs.Refusals.{Outcome, Done, Refused, first}
 use Rattle.requests.specs.Requests.{length_of}
 use Rattle.receiver.specs.declared.Receiver.{Receiver}
 use Rattle.receiver.specs.declared.Offered.{Offered}
@@ -52,8 +50,8 @@ offer_rows r = (FrameHeld, is_held r) ∷ []
 
 -- refused, nothing taken
 abbrev pub offered_by : Outcome → Receiver → List ℕ → Offered
-offered_by Done r bytes = record { outcome = Done; taken = taken r bytes; receiver = filled r bytes }
-offered_by (Refused refusal) r bytes = record { outcome = Refused refusal; taken = 0; receiver = r }
+offered_by (Ok done) r bytes = record { outcome = Done; taken = taken r bytes; receiver = filled r bytes }
+offered_by (Err refusal) r bytes = record { outcome = Refused refusal; taken = 0; receiver = r }
 
 unfoldable pub offered_of : Receiver → List ℕ → Offered
 offered_of r bytes = offered_by (first (offer_rows r)) r bytes

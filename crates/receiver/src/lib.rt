@@ -6,13 +6,13 @@ ghost use Rattle.std.specs.Prelude.{false, ◌≡◌, ◌≤◌, ◌<◌, length
 ghost use Rattle.receiver.specs.Receiver.{held_of, complete, is_held, no_bytes, offered_of};
 ghost use Rattle.receiver.specs.Taking.{Takes};
 
-use numbers::lesser;
 use refusals::{Outcome, Refusal};
 
 // The longest frame: 9 bytes and a PL of 255.
 pub const ROOM: usize = 264;
 
 // The first `count` bytes have come of a frame: none, an unfinished one, or a complete one, which is held.
+// C holds it by its fields, so the bytes stand in an array and the count beside it.
 #[repr(C)]
 #[derive(Clone, Copy)]
 pub struct Receiver {
@@ -20,7 +20,7 @@ pub struct Receiver {
     pub count: u16,
 }
 
-// What an offer comes to, how many bytes it took, and the receiver after it.
+// What an offer comes to, how many bytes it took, and the receiver after it, which comes back after a refusal too.
 #[derive(Clone, Copy)]
 pub struct Offered {
     pub outcome: Outcome,
@@ -45,33 +45,33 @@ impl Receiver {
     {
         if self.is_held() {
             return Offered {
-                outcome: Outcome::Refused(Refusal::FrameHeld),
+                outcome: Err(Refusal::FrameHeld),
                 taken: 0,
                 receiver: self,
             };
         }
         let mut held = self.bytes;
         let mut count = self.count;
-        let mut taken = 0;
-        while taken < bytes.len() {
+        for (taken, byte) in bytes.iter().enumerate() {
             if is_complete(&held, count) {
                 return Offered {
-                    outcome: Outcome::Done,
+                    outcome: Ok(()),
                     taken,
                     receiver: Receiver { bytes: held, count },
                 };
             }
-            count = take_byte(&mut held, count, bytes[taken]);
-            taken += 1;
+            count = take_byte(&mut held, count, *byte);
         }
+        let taken = bytes.len();
         Offered {
-            outcome: Outcome::Done,
+            outcome: Ok(()),
             taken,
             receiver: Receiver { bytes: held, count },
         }
     }
 
     // A frame is complete. Only then can the array be full.
+    #[tactic(auto, unfolding(crate::specs::Receiver::is_held))]
     pub fn is_held(self) -> bool
         ensures { (result ≡ is_held self) × (result ≡ false → length (held_of self) < 264) }
     {
@@ -83,8 +83,7 @@ impl Receiver {
     pub fn length(self) -> usize
         ensures { (result ≡ length (held_of self)) × (result ≤ 264) × (length self.bytes ≡ 264) }
     {
-        let count = self.count as usize;
-        if count < ROOM { count } else { ROOM }
+        usize::from(self.count).min(ROOM)
     }
 }
 
@@ -92,7 +91,7 @@ impl Receiver {
 fn is_complete(bytes: &[u8], count: u16) -> bool
     ensures { (result ≡ complete (take count bytes.now)) × (result ≡ false → length (take count bytes.now) < 264) }
 {
-    let n = lesser(count as usize, bytes.len());
+    let n = (count as usize).min(bytes.len());
     requests::length_of(&bytes[..n]) <= n
 }
 

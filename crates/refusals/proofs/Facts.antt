@@ -11,7 +11,7 @@ use Rattle.refusals.specs.declared.Refusal.TheVariants.{WrongCells, WrongCurrent
 use Rattle.refusals.specs.declared.Refusal.TheVariants.{UsedAfterUnused, NeverRecorded, BadRecord, CutRecord, WrongSlice}
 use Rattle.refusals.specs.declared.Refusal.TheVariants.{WrongStore, SpoiltStore, NoEdition, BrokenRules, EditionsUsedUp}
 use Rattle.refusals.specs.declared.Refusal.TheVariants.{CutBill, PastTotal, WrongRecord}
-use Rattle.refusals.specs.declared.Left.TheVariants.{Zeros, Nack}
+use Rattle.std.specs.Prelude.{Some, None}
 use Rattle.refusals.specs.Refusals.{refusal_number, left_by, number_of, first}
 
 -- document 01's of a frame, and which of them a NACK answers
@@ -22,7 +22,7 @@ frame_numbers : map refusal_number frames ≡ 1 ∷ 2 ∷ 3 ∷ 41 ∷ 42 ∷ 43
 unfolding frames
 frame_numbers = refl
 
-frame_replies : map left_by frames ≡ Zeros ∷ Zeros ∷ Nack 0x01 ∷ Nack 0x00 ∷ Nack 0x00 ∷ Nack 0x00 ∷ Nack 0x00 ∷ Nack 0x00 ∷ []
+frame_replies : map left_by frames ≡ None ∷ None ∷ Some 0x01 ∷ Some 0x00 ∷ Some 0x00 ∷ Some 0x00 ∷ Some 0x00 ∷ Some 0x00 ∷ []
 unfolding frames
 frame_replies = refl
 

@@ -1,7 +1,7 @@
 -- Numbers the caller gets. A call has rows, each a refusal and whether it applies; the first that applies is given, and where none does the
 -- call is done.
 -- Assumes nothing.
-use Rattle.std.specs.Prelude.{Bool, true, false, cond, List, [], ◌∷◌, ℕ}
+use Rattle.std.specs.Prelude.{Bool, true, false, cond, List, [], ◌∷◌, ℕ, ⊤, is_ok, Result, Ok, Err, Option, Some, None}
 use Rattle.refusals.specs.declared.Refusal.{Refusal}
 use Rattle.refusals.specs.declared.Refusal.TheVariants.{NoRoom, Foreign, Damaged, UnknownCommand, WrongLength, WrongField}
 use Rattle.refusals.specs.declared.Refusal.TheVariants.{OutOfRange, OutOfOrder, FrameHeld, NoFrameHeld}
@@ -9,10 +9,6 @@ use Rattle.refusals.specs.declared.Refusal.TheVariants.{WrongCells, WrongCurrent
 use Rattle.refusals.specs.declared.Refusal.TheVariants.{UsedAfterUnused, NeverRecorded, BadRecord, CutRecord, WrongSlice}
 use Rattle.refusals.specs.declared.Refusal.TheVariants.{WrongStore, SpoiltStore, NoEdition, BrokenRules, EditionsUsedUp}
 use Rattle.refusals.specs.declared.Refusal.TheVariants.{CutBill, PastTotal, WrongRecord}
-use Rattle.refusals.specs.declared.Left.{Left}
-use Rattle.refusals.specs.declared.Left.TheVariants.{Zeros, Nack}
-use Rattle.refusals.specs.declared.Outcome.{Outcome}
-use Rattle.refusals.specs.declared.Outcome.TheVariants.{Done, Refused}
 
 -- document 01: frames, ticks, a start; and W-201, W-205, W-208 (41 to 45 in the place of 4), W-210, W-211, W-213 and W-214 of document 02.
 -- There is no number 5 since W-209
@@ -80,49 +76,68 @@ refusal_register PastTotal = 0
 refusal_register WrongRecord = 0
 
 -- what a refusal leaves in a lent reply buffer: a NACK, error 0x01 or 0x00, or zeros alone
-abbrev pub left_by : Refusal → Left
-left_by NoRoom = Zeros
-left_by Foreign = Zeros
-left_by Damaged = Nack 0x01
-left_by UnknownCommand = Nack 0x00
-left_by WrongLength = Nack 0x00
-left_by WrongField = Nack 0x00
-left_by (OutOfRange register) = Nack 0x00
-left_by OutOfOrder = Nack 0x00
-left_by FrameHeld = Zeros
-left_by NoFrameHeld = Zeros
-left_by WrongCells = Zeros
-left_by WrongCurrent = Zeros
-left_by NoInternal = Zeros
-left_by WrongPulses = Zeros
-left_by NoBoard = Zeros
-left_by WrongArea = Zeros
-left_by UsedAfterUnused = Zeros
-left_by NeverRecorded = Zeros
-left_by WrongStore = Zeros
-left_by SpoiltStore = Zeros
-left_by NoEdition = Zeros
-left_by BrokenRules = Zeros
-left_by EditionsUsedUp = Zeros
-left_by BadRecord = Zeros
-left_by CutRecord = Zeros
-left_by WrongSlice = Zeros
-left_by CutBill = Zeros
-left_by PastTotal = Zeros
-left_by WrongRecord = Zeros
+abbrev pub left_by : Refusal → Option ℕ
+left_by NoRoom = None
+left_by Foreign = None
+left_by Damaged = Some 0x01
+left_by UnknownCommand = Some 0x00
+left_by WrongLength = Some 0x00
+left_by WrongField = Some 0x00
+left_by (OutOfRange register) = Some 0x00
+left_by OutOfOrder = Some 0x00
+left_by FrameHeld = None
+left_by NoFrameHeld = None
+left_by WrongCells = None
+left_by WrongCurrent = None
+left_by NoInternal = None
+left_by WrongPulses = None
+left_by NoBoard = None
+left_by WrongArea = None
+left_by UsedAfterUnused = None
+left_by NeverRecorded = None
+left_by WrongStore = None
+left_by SpoiltStore = None
+left_by NoEdition = None
+left_by BrokenRules = None
+left_by EditionsUsedUp = None
+left_by BadRecord = None
+left_by CutRecord = None
+left_by WrongSlice = None
+left_by CutBill = None
+left_by PastTotal = None
+left_by WrongRecord = None
+
+-- what a call comes to
+abbrev pub Outcome : Type 0
+Outcome = Result ⊤ Refusal
+
+abbrev pub Done : Outcome
+Done = Ok tt
+
+abbrev pub Refused : Refusal → Outcome
+Refused = Err
 
 -- 0, done
 abbrev pub number_of : Outcome → ℕ
-number_of Done = 0
-number_of (Refused refusal) = refusal_number refusal
+number_of (Ok done) = 0
+number_of (Err refusal) = refusal_number refusal
 
 abbrev pub register_of : Outcome → ℕ
-register_of Done = 0
-register_of (Refused refusal) = refusal_register refusal
+register_of (Ok done) = 0
+register_of (Err refusal) = refusal_register refusal
 
 abbrev pub is_done : Outcome → Bool
-is_done Done = true
-is_done (Refused refusal) = false
+is_done = is_ok
+
+-- a call that gives a value where it is done, and else the refusal
+abbrev pub giving : {A : Type 0} → Outcome → A → Result A Refusal
+giving (Ok done) a = Ok a
+giving (Err refusal) a = Err refusal
+
+-- what that comes to
+abbrev pub come_to : {A : Type 0} → Result A Refusal → Outcome
+come_to (Ok a) = Done
+come_to (Err refusal) = Refused refusal
 
 -- rows stand from the lowest number on, so the first that applies is the lowest
 unfoldable pub first : List (Refusal × Bool) → Outcome

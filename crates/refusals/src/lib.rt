@@ -2,7 +2,7 @@
 #![tactic(auto)]
 
 ghost use Rattle.std.specs.Prelude.{◌≡◌};
-ghost use Rattle.refusals.specs.Refusals.{refusal_number, refusal_register, left_by, number_of, register_of, is_done};
+ghost use Rattle.refusals.specs.Refusals.{refusal_number, refusal_register, left_by, number_of, register_of};
 
 #[derive(Clone, Copy)]
 pub enum Refusal {
@@ -37,48 +37,26 @@ pub enum Refusal {
     WrongRecord, // a handover's record that is not of 32 bytes
 }
 
-// What a refusal leaves in a lent reply buffer: zeros alone, or a NACK with its error, and then zeros.
-#[derive(Clone, Copy)]
-pub enum Left {
-    Zeros,
-    Nack(u8),
-}
-
 // What a call comes to.
-#[derive(Clone, Copy)]
-pub enum Outcome {
-    Done,
-    Refused(Refusal),
+pub type Outcome = Result<(), Refusal>;
+
+// 0 where it is done.
+pub fn number_of(outcome: Outcome) -> u8
+    ensures { result ≡ number_of outcome }
+{
+    match outcome {
+        Ok(()) => 0,
+        Err(refusal) => refusal.number(),
+    }
 }
 
-impl Outcome {
-    // 0 where it is done.
-    pub fn number(self) -> u8
-        ensures { result ≡ number_of self }
-    {
-        match self {
-            Outcome::Done => 0,
-            Outcome::Refused(refusal) => refusal.number(),
-        }
-    }
-
-    // The register of a 44; 0 of every other.
-    pub fn register(self) -> u16
-        ensures { result ≡ register_of self }
-    {
-        match self {
-            Outcome::Done => 0,
-            Outcome::Refused(refusal) => refusal.register(),
-        }
-    }
-
-    pub fn is_done(self) -> bool
-        ensures { result ≡ is_done self }
-    {
-        match self {
-            Outcome::Done => true,
-            Outcome::Refused(_) => false,
-        }
+// The register of a 44; 0 of every other.
+pub fn register_of(outcome: Outcome) -> u16
+    ensures { result ≡ register_of outcome }
+{
+    match outcome {
+        Ok(()) => 0,
+        Err(refusal) => refusal.register(),
     }
 }
 
@@ -128,39 +106,18 @@ impl Refusal {
         }
     }
 
-    pub fn leaves(self) -> Left
+    // The error of the NACK that it leaves in a lent reply buffer; zeros alone where there is none.
+    pub fn leaves(self) -> Option<u8>
         ensures { result ≡ left_by self }
     {
         match self {
-            Refusal::NoRoom => Left::Zeros,
-            Refusal::Foreign => Left::Zeros,
-            Refusal::Damaged => Left::Nack(0x01),
-            Refusal::UnknownCommand => Left::Nack(0x00),
-            Refusal::WrongLength => Left::Nack(0x00),
-            Refusal::WrongField => Left::Nack(0x00),
-            Refusal::OutOfRange(_) => Left::Nack(0x00),
-            Refusal::OutOfOrder => Left::Nack(0x00),
-            Refusal::FrameHeld => Left::Zeros,
-            Refusal::NoFrameHeld => Left::Zeros,
-            Refusal::WrongCells => Left::Zeros,
-            Refusal::WrongCurrent => Left::Zeros,
-            Refusal::NoInternal => Left::Zeros,
-            Refusal::WrongPulses => Left::Zeros,
-            Refusal::NoBoard => Left::Zeros,
-            Refusal::WrongArea => Left::Zeros,
-            Refusal::UsedAfterUnused => Left::Zeros,
-            Refusal::NeverRecorded => Left::Zeros,
-            Refusal::WrongStore => Left::Zeros,
-            Refusal::SpoiltStore => Left::Zeros,
-            Refusal::NoEdition => Left::Zeros,
-            Refusal::BrokenRules => Left::Zeros,
-            Refusal::EditionsUsedUp => Left::Zeros,
-            Refusal::BadRecord => Left::Zeros,
-            Refusal::CutRecord => Left::Zeros,
-            Refusal::WrongSlice => Left::Zeros,
-            Refusal::CutBill => Left::Zeros,
-            Refusal::PastTotal => Left::Zeros,
-            Refusal::WrongRecord => Left::Zeros,
+            Refusal::Damaged => Some(0x01),
+            Refusal::UnknownCommand
+            | Refusal::WrongLength
+            | Refusal::WrongField
+            | Refusal::OutOfRange(_)
+            | Refusal::OutOfOrder => Some(0x00),
+            _ => None,
         }
     }
 }

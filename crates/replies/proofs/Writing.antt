@@ -1,15 +1,17 @@
 -- What ends a reply, and words in a row, whatever the buffer's length: by what is put, byte by byte. Assumes nothing.
 use mathlib.Core.Bool.{Bool, true, false}
-use mathlib.Core.Path.{◌≡◌, refl, sym, ap, ◌∙◌}
-use mathlib.Core.List.{List, [], ◌∷◌, ◌++◌, append_assoc, append-nil}
+use mathlib.Core.Path.{◌≡◌, refl, sym, ap, ap₂, ◌∙◌}
+use mathlib.Core.List.{List, [], ◌∷◌, ◌++◌, append-nil}
 use Prim.Native.Nat.{ℕ, zero, suc, ◌+◌, ◌-◌, ◌*◌, ◌≤◌, ◌<◌, min}
-use native.Mathlib.Nat.{zero-add, sub_self, sub-zero, suc-sub-suc, mul-suc}
+use native.Mathlib.Nat.{zero-add, sub-zero, suc-sub-suc, mul-suc}
 use native.Mathlib.Numerals.{add-one}
 use native.Mathlib.Omega.{arith}
 use borrow.Author.Tests.{leb-true, leb-false}
 use lib.Dec.{leb}
-use lib.ListN.{length, take, set, replicate, length-append, length-set, length-replicate, replicate-append-replicate}
-use lib.Seq.{sets, take-suc-set, take_all, length-take-le}
+use lib.ListN.{length, take, drop, set, replicate, length-append, length-drop, length-replicate, drop_of_length-le}
+use borrow.Rule.Slice.PartMut.{put_mid}
+use Rattle.std.proofs.Math.Seq.{take-length}
+use lib.Seq.{sets, take_all, length-take-le}
 use Rattle.laws.proofs.Lists.{take_min}
 use Rattle.crc.specs.Crc.{crc_of}
 use Rattle.numbers.specs.Numbers.{le16, Wrote}
@@ -75,36 +77,26 @@ pub whole : {l₀ l₁ xs : List ℕ} → Filled l₀ xs l₁ → length xs ≤ 
 unfolding padded
 whole {l₀} {l₁} {xs} f h = f.filled ∙ take_all (length l₀) _ (simp (length-append, length-replicate) (omega arith))
 
--- ---- zeros, one by one
+-- ---- zeros from a place to the end
 
--- the list l holds the first `from` of l₀ and then zeros up to i
-pub record Zeroed (l₀ : List ℕ) (from i : ℕ) (l : List ℕ) : Type 0 where
-  pub same : length l ≡ length l₀
-  pub zeroed : take i l ≡ take from l₀ ++ replicate (i - from) 0
-
-pub zero_none : (l : List ℕ) (from : ℕ) → Zeroed l from from l
-zero_none l from = record { same = refl; zeroed = rw (sub_self, append-nil) }
-
-pub zero_more : {l₀ l : List ℕ} {from i : ℕ} → Zeroed l₀ from i l → from ≤ i → i < length l₀ → Zeroed l₀ from (i + 1) (set l i 0)
-zero_more {l₀} {l} {from} {i} e f h =
-    let k : length l ≡ length l₀ = e.same in
-    let s : i + 1 - from ≡ i - from + 1 = omega arith in
-    let p : take (i + 1) (set l i 0) ≡ take i l ++ (0 ∷ []) = rw add-one (take-suc-set l i 0 (omega arith)) in
-    record {
-      same = length-set l i 0 ∙ k;
-      zeroed = p ∙ rw (e.zeroed, append_assoc, replicate-append-replicate {A = ℕ} (i - from) 1 0, s);
-    }
-
-pub zero_done : (from : ℕ) {l₀ l : List ℕ} {start i : ℕ} → Zeroed l₀ start i l → start ≡ min from (length l₀) → i ≡ length l₀
-    → Filled l₀ (take from l₀) l
+-- the part from `start` on holds zeros
+pub zeros_put : (from : ℕ) {l₀ part : List ℕ} {start : ℕ} → start ≡ min from (length l₀)
+    → part ≡ replicate (length (take (length l₀ - start) (drop start l₀))) 0
+    → Filled l₀ (take from l₀) (put_mid start (length l₀ - start) l₀ part)
 unfolding padded
-zero_done from {l₀} {l} {start} {i} e f g =
-    let k : length l ≡ length l₀ = e.same in
+zeros_put from {l₀} {part} {start} f e =
     let t : take start l₀ ≡ take from l₀ = ap (λ n. take n l₀) f ∙ take_min from l₀ in
     let s : length (take from l₀) ≡ start = sym (ap length t) ∙ length-take-le start l₀ (omega arith) in
-    let p : l ≡ take from l₀ ++ replicate (length l₀ - length (take from l₀)) 0 = sym (take_all i l (omega arith)) ∙ e.zeroed
-    ∙ rw (t, s, g) in
-    record { filled = p ∙ sym (take_all (length l₀) _ (rw (← p) (omega arith))) }
+    let size : length (take (length l₀ - start) (drop start l₀)) ≡ length l₀ - length (take from l₀) =
+    ap length (ap (λ k. take k (drop start l₀)) (sym (length-drop start l₀)) ∙ take-length (drop start l₀))
+    ∙ length-drop start l₀
+    ∙ ap (λ k. length l₀ - k) (sym s) in
+    let behind : drop (length l₀ - start) (drop start l₀) ≡ [] =
+    drop_of_length-le (drop start l₀) {i = length l₀ - start} (omega (arith, length-drop start l₀)) in
+    let zeroed : part ≡ replicate (length l₀ - length (take from l₀)) 0 = e ∙ ap (λ k. replicate k 0) size in
+    let p : put_mid start (length l₀ - start) l₀ part ≡ take from l₀ ++ replicate (length l₀ - length (take from l₀)) 0 =
+    ap₂ (λ (x y : List ℕ). x ++ y) t (ap₂ (λ (x y : List ℕ). x ++ y) zeroed behind ∙ append-nil _) in
+    record { filled = p ∙ sym (take_all (length l₀) _ (simp (length-append, length-replicate) (omega arith))) }
 
 -- ---- the end of a reply
 

@@ -6,7 +6,7 @@ ghost use Rattle.std.specs.Prelude.{cond, [], ◌∷◌, ◌≡◌, take};
 ghost use Rattle.numbers.specs.Numbers.{Wrote};
 ghost use Rattle.replies.specs.Replies.{word16, sealed, nack_of, ack_of, length_byte, Filled, Lengthened};
 
-use numbers::{lesser, put_byte, put_high_first_16, put_low_first_16, put_pair};
+use numbers::{put_byte, put_high_first_16, put_low_first_16, put_pair};
 
 // NACK, ACK: a whole reply.
 
@@ -59,7 +59,7 @@ pub fn put_word(reply: &mut [u8], at: usize, high_first: bool, word: u16)
 pub fn seal(reply: &mut [u8], n: usize)
     ensures { Filled reply.old (sealed (take n reply.old)) reply.new }
 {
-    let end = lesser(n, reply.len());
+    let end = n.min(reply.len());
     let crc = crc::crc(&reply[..end]);
     zero_from(reply, end);
     put_word(reply, end, false, crc);
@@ -69,9 +69,6 @@ pub fn seal(reply: &mut [u8], n: usize)
 pub fn zero_from(reply: &mut [u8], from: usize)
     ensures { Filled reply.old (take from reply.old) reply.new }
 {
-    let mut i = lesser(from, reply.len());
-    while i < reply.len() {
-        reply[i] = 0;
-        i += 1;
-    }
+    let from = from.min(reply.len());
+    reply[from..].fill(0);
 }

@@ -9,9 +9,10 @@ use native.Mathlib.Omega.{arith}
 use borrow.Author.Tests.{eqb-true, eqb-false, leb-true, le-leb}
 use lib.Dec.{eqb, leb}
 use lib.ListN.{get_or}
-use Rattle.refusals.specs.declared.Outcome.{Outcome}
-use Rattle.refusals.specs.declared.Outcome.TheVariants.{Done, Refused}
-use Rattle.refusals.specs.Refusals.{first}
+use Rattle.refusals.specs.declared.Refusal.TheVariants.{WrongField}
+use Rattle.refusals.specs.Refusals.{Outcome, first}
+use Rattle.std.specs.Prelude.{Ok, Err}
+use Rattle.std.specs.Option.{ok_or}
 use Rattle.writes.specs.declared.Form.TheVariants as form
 use Rattle.numbers.specs.Numbers.{be16_at, le16_at}
 use Rattle.writes.specs.Writes.{between, write_command}
@@ -22,17 +23,16 @@ use Rattle.requests.specs.declared.Command.TheVariants.{Clear, Block, QuickBlock
 use Rattle.requests.specs.declared.Expected.{Expected}
 use Rattle.requests.specs.declared.Request.{Request}
 use Rattle.requests.specs.declared.Request.TheVariants as request
-use Rattle.requests.specs.Requests.{expect, expected_of, expected_in, in_one_range, address_at, all_shown, fields_of, fields_in}
-use Rattle.requests.specs.Requests.{request_rows, asked_of, request_by, request_of, command_of}
-use Rattle.requests.proofs.Outcomes.{none_applies}
+use Rattle.requests.specs.Requests.{expect, expected_of, expected_in, in_one_range, address_at, all_shown, fields_of}
+use Rattle.requests.specs.Requests.{Asked, fields, request_rows, asked_of, request_by, request_of, command_of}
 
 -- the command that a request is answered with; c where it has none of its own
-unfoldable pub command_in : ℕ → Request → ℕ
-command_in c (request.Refused refusal) = c
-command_in c request.ClearEvents = c
-command_in c request.ClearStatistics = c
-command_in c (request.Write f n) = write_command f
-command_in c (request.Read q) = command_of q
+unfoldable pub command_in : ℕ → Asked → ℕ
+command_in c (Err refusal) = c
+command_in c (Ok request.ClearEvents) = c
+command_in c (Ok request.ClearStatistics) = c
+command_in c (Ok (request.Write f n)) = write_command f
+command_in c (Ok (request.Read q)) = command_of q
 
 -- the registers that a query of those bytes names: how many, and the i-th; the cells are 0 to 15
 unfoldable pub named_by : Query → ℕ
@@ -78,14 +78,14 @@ counted Cells = true
 counted (SettingsOf kind n) = leb n 100
 
 -- what is asked of a query, of a request that is one
-abbrev pub of_query : (Query → Bool) → Request → Bool
-of_query asks (request.Refused refusal) = true
-of_query asks request.ClearEvents = true
-of_query asks request.ClearStatistics = true
-of_query asks (request.Write f n) = true
-of_query asks (request.Read q) = asks q
+abbrev pub of_query : (Query → Bool) → Asked → Bool
+of_query asks (Err refusal) = true
+of_query asks (Ok request.ClearEvents) = true
+of_query asks (Ok request.ClearStatistics) = true
+of_query asks (Ok (request.Write f n)) = true
+of_query asks (Ok (request.Read q)) = asks q
 
-unfoldable pub reads_in_range : List ℕ → Request → Bool
+unfoldable pub reads_in_range : List ℕ → Asked → Bool
 reads_in_range s q = of_query (in_range s) q
 
 -- so each address of a list does
@@ -101,7 +101,7 @@ each_shown s (suc n) i h l = go (eqb i n) refl (λ k. each_shown s n i both.0 k)
     go true e f = ap (λ (k : ℕ). in_one_range (address_at s k) 1) (eqb-true i n e) ∙ both.1
     go false e f = f (omega (arith, eqb-false))
 
-pub record Sound (c : ℕ) (s : List ℕ) (q : Request) : Type 0 where
+pub record Sound (c : ℕ) (s : List ℕ) (q : Asked) : Type 0 where
   pub named : command_in c q ≡ c
   pub lies_in_range : reads_in_range s q ≡ true
   pub few : of_query counted q ≡ true
@@ -185,43 +185,52 @@ counts most a n through h l =
 module _ (c : ℕ) (s : List ℕ) where
   -- the last two of the tests that a block passes
   block : (k at padding rl through : ℕ) → k ≡ c → (eqb padding 0 && between 1 through rl && in_one_range at rl) ≡ true → through ≤ 127
-      → Sound c s (request.Read (Registers k at rl))
+      → Sound c s (Ok (request.Read (Registers k at rl)))
   unfolding command_in reads_in_range in_range counted command_of
   block k at padding rl through e h l =
       let both = (and-eq-true_iff (eqb padding 0 && between 1 through rl) (in_one_range at rl)).0 h in
       record { named = e; lies_in_range = both.1; few = counts 127 (eqb padding 0) rl through both.0 l }
 
-  fields : (k : Command) → byte_of c k ≡ c → asks_within s k ≡ true → (fields_of k s).good ≡ true → Sound c s (fields_of k s).asks
+  -- fields that are against their rule ask nothing
+  by_rule : (good : Bool) (q : Request) → (good ≡ true → Sound c s (Ok q)) → Sound c s (ok_or (fields good q) WrongField)
+  unfolding command_in reads_in_range
+  by_rule true q h = h refl
+  by_rule false q h = record { named = refl; lies_in_range = refl; few = refl }
+
+  asked : (k : Command) → byte_of c k ≡ c → asks_within s k ≡ true → Sound c s (ok_or (fields_of k s) WrongField)
   unfolding command_in reads_in_range in_range counted byte_of asks_within fields_of command_of
-  fields Clear e r h = go (eqb (get_or s 2 0) 1)
+  asked Clear e r = by_rule _ _ (λ h. go (eqb (get_or s 2 0) 1))
     where
-      go : (t : Bool) → Sound c s (cond t request.ClearEvents request.ClearStatistics)
+      go : (t : Bool) → Sound c s (Ok (cond t request.ClearEvents request.ClearStatistics))
       go true = record { named = refl; lies_in_range = refl; few = refl }
       go false = record { named = refl; lies_in_range = refl; few = refl }
-  fields Block e r h = block 0x03 (be16_at s 2) (get_or s 4 0) (get_or s 5 0) _ e h (omega arith)
-  fields QuickBlock e r h = block 0x07 (le16_at s 3) 0 (get_or s 2 0) _ e h (omega arith)
-  fields AskList e r h =
+  asked Block e r = by_rule _ _ (λ h. block 0x03 (be16_at s 2) (get_or s 4 0) (get_or s 5 0) _ e h (omega arith))
+  asked QuickBlock e r = by_rule _ _ (λ h. block 0x07 (le16_at s 3) 0 (get_or s 2 0) _ e h (omega arith))
+  asked AskList e r =
       let pl = get_or s 2 0 in
-      let both = (and-eq-true_iff (eqb pl (2 * (pl / 2)) && between 1 _ (pl / 2)) (all_shown s (pl / 2))).0 h in
-      record { named = e; lies_in_range = both.1; few = counts 63 (eqb pl (2 * (pl / 2))) (pl / 2) _ both.0 (omega arith) }
-  fields (Write f) e r h = record { named = e; lies_in_range = refl; few = refl }
-  fields (Ask q) e r h = let both = (and-eq-true_iff (in_range s q) (counted q)).0 r in record { named = e; lies_in_range = both.0; few = both.1 }
-  fields AskSettings e r h =
+      by_rule _ _ (λ h. let both = (and-eq-true_iff (eqb pl (2 * (pl / 2)) && between 1 _ (pl / 2)) (all_shown s (pl / 2))).0 h in record {
+        named = e;
+        lies_in_range = both.1;
+        few = counts 63 (eqb pl (2 * (pl / 2))) (pl / 2) _ both.0 (omega arith);
+      })
+  asked (Write f) e r = by_rule _ _ (λ h. record { named = e; lies_in_range = refl; few = refl })
+  asked (Ask q) e r = let both = (and-eq-true_iff (in_range s q) (counted q)).0 r in record { named = e; lies_in_range = both.0; few = both.1 }
+  asked AskSettings e r =
       let options = between 1 4 (get_or s 2 0) && eqb (get_or s 3 0) 0 in
-      record { named = e; lies_in_range = refl; few = counts 100 options (get_or s 4 0) _ h (omega arith) }
-  fields Unknown e r h = absurd (false≢true h)
+      by_rule _ _ (λ h. record { named = e; lies_in_range = refl; few = counts 100 options (get_or s 4 0) _ h (omega arith) })
+  asked Unknown e r = record { named = refl; lies_in_range = refl; few = refl }
 
 -- ---- every request
 
-pub asked_sound : (s : List ℕ) → (fields_in s).good ≡ true → Sound (get_or s 1 0) s (asked_of s)
-asked_sound s h =
+asked_sound : (s : List ℕ) → Sound (get_or s 1 0) s (asked_of s)
+asked_sound s =
     let k = expected s (get_or s 1 0) (get_or s 2 0) (get_or s 6 0) in
-    fields (get_or s 1 0) s (expected_in s).command k.stands k.within h
+    asked (get_or s 1 0) s (expected_in s).command k.stands k.within
 
 pub sound : (s : List ℕ) → Sound (get_or s 1 0) s (request_of s)
 unfolding request_of command_in reads_in_range
-sound s = go (first (request_rows s)) refl
+sound s = go (first (request_rows s))
   where
-    go : (o : Outcome) → first (request_rows s) ≡ o → Sound (get_or s 1 0) s (request_by o (asked_of s))
-    go Done e = asked_sound s (none_applies s e).kept
-    go (Refused refusal) e = record { named = refl; lies_in_range = refl; few = refl }
+    go : (o : Outcome) → Sound (get_or s 1 0) s (request_by o (asked_of s))
+    go (Ok done) = asked_sound s
+    go (Err refusal) = record { named = refl; lies_in_range = refl; few = refl }

@@ -1,12 +1,13 @@
 -- Requests. The command byte decides the length and the meaning; all lengths include AA and CRC. (The three writes: crate `writes`.)
 -- Assumes nothing.
-use Rattle.std.specs.Prelude.{Bool, true, false, ◌&&◌, ◌||◌, not, cond, List, [], ◌∷◌, ℕ, zero, suc, ◌+◌, ◌-◌, ◌*◌, ◌/◌, eqb, leb, ltb, length, take, get_or}
+use Rattle.std.specs.Prelude.{Bool, true, false, ◌&&◌, ◌||◌, not, cond, List, [], ◌∷◌, ℕ, zero, suc, ◌+◌, ◌-◌, ◌*◌, ◌/◌, eqb, leb, ltb}
+use Rattle.std.specs.Prelude.{length, take, get_or, Result, Ok, Err, Option, is_some, Some, None}
+use Rattle.std.specs.Bool.{then_some}
+use Rattle.std.specs.Option.{ok_or}
 use Rattle.crc.specs.Crc.{crc_of}
 use Rattle.refusals.specs.declared.Refusal.{Refusal}
 use Rattle.refusals.specs.declared.Refusal.TheVariants.{Foreign, Damaged, UnknownCommand, WrongLength, WrongField}
-use Rattle.refusals.specs.declared.Outcome.{Outcome}
-use Rattle.refusals.specs.declared.Outcome.TheVariants as outcome
-use Rattle.refusals.specs.Refusals.{first}
+use Rattle.refusals.specs.Refusals.{Outcome, first}
 use Rattle.settings.specs.declared.Kind.{Kind}
 use Rattle.settings.specs.declared.Kind.TheVariants.{Minimum, Maximum, Default, Current}
 use Rattle.writes.specs.declared.Form.{Form}
@@ -18,7 +19,6 @@ use Rattle.requests.specs.declared.Query.TheVariants.{Registers, Listed, Bare, N
 use Rattle.requests.specs.declared.Command.{Command}
 use Rattle.requests.specs.declared.Command.TheVariants.{Clear, Block, QuickBlock, AskList, Write, Ask, AskSettings, Unknown}
 use Rattle.requests.specs.declared.Expected.{Expected}
-use Rattle.requests.specs.declared.Fields.{Fields}
 use Rattle.requests.specs.declared.Request.{Request}
 use Rattle.requests.specs.declared.Request.TheVariants as request
 
@@ -56,10 +56,10 @@ expected_in bytes = expected_of (get_or bytes 1 0) (get_or bytes 2 0) (get_or by
 unfoldable pub length_of : List ℕ → ℕ
 length_of bytes = (expected_in bytes).length
 
--- ---- what its fields ask, and whether each keeps its rule
+-- ---- what its fields ask, where each keeps its rule
 
-abbrev pub fields : Bool → Request → Fields
-fields good asks = record { good = good; asks = asks }
+abbrev pub fields : Bool → Request → Option Request
+fields good asks = then_some good asks
 
 -- a register block must lie in one range: 0 to 55, 100 to 117, or 300 to 399
 abbrev pub in_one_range : ℕ → ℕ → Bool
@@ -69,11 +69,11 @@ in_one_range at n = leb (at + n) 56 || leb 100 at && leb (at + n) 118 || leb 300
 abbrev pub cleared_by : ℕ → Request
 cleared_by option = cond (eqb option 1) request.ClearEvents request.ClearStatistics
 
-abbrev pub clear_fields : ℕ → Fields
+abbrev pub clear_fields : ℕ → Option Request
 clear_fields option = fields (between 1 2 option) (cleared_by option)
 
 -- 0x03: address high, low, 00, RL. 0x07: RL, address low, high. RL 1 to 127
-abbrev pub block_fields : ℕ → ℕ → ℕ → ℕ → Fields
+abbrev pub block_fields : ℕ → ℕ → ℕ → ℕ → Option Request
 block_fields command at padding rl = fields (eqb padding 0 && between 1 127 rl && in_one_range at rl) (request.Read (Registers command at rl))
 
 -- 0x09: PL, addresses low, high. PL = 2n, n 1 to 63, each address in one of the ranges, which may mix
@@ -84,33 +84,33 @@ unfoldable pub all_shown : List ℕ → ℕ → Bool
 all_shown bytes zero = true
 all_shown bytes (suc n) = all_shown bytes n && in_one_range (address_at bytes n) 1
 
-abbrev pub list_fields : ℕ → List ℕ → Fields
+abbrev pub list_fields : ℕ → List ℕ → Option Request
 list_fields pl bytes = fields (eqb pl (2 * (pl / 2)) && between 1 63 (pl / 2) && all_shown bytes (pl / 2)) (request.Read (Listed (pl / 2)))
 
 -- 0x10, 0x0B and 0x0D: so many registers
-abbrev pub write_fields : Form → List ℕ → ℕ → Fields
+abbrev pub write_fields : Form → List ℕ → ℕ → Option Request
 write_fields f bytes n = fields (keeps_rules f bytes n) (request.Write f n)
 
 -- 0x1D: option 1 to 4 (minimum, maximum, default, current), 00, RL 1 to 100
 unfoldable pub kind_of : ℕ → Kind
 kind_of option = cond (eqb option 1) Minimum (cond (eqb option 2) Maximum (cond (eqb option 3) Default Current))
 
-abbrev pub settings_fields : ℕ → ℕ → ℕ → Fields
+abbrev pub settings_fields : ℕ → ℕ → ℕ → Option Request
 settings_fields option padding rl =
     fields (between 1 4 option && eqb padding 0 && between 1 100 rl) (request.Read (SettingsOf (kind_of option) rl))
 
-unfoldable pub fields_of : Command → List ℕ → Fields
+unfoldable pub fields_of : Command → List ℕ → Option Request
 fields_of Clear bytes = clear_fields (get_or bytes 2 0)
 fields_of Block bytes = block_fields 0x03 (be16_at bytes 2) (get_or bytes 4 0) (get_or bytes 5 0)
 fields_of QuickBlock bytes = block_fields 0x07 (le16_at bytes 3) 0 (get_or bytes 2 0)
 fields_of AskList bytes = list_fields (get_or bytes 2 0) bytes
 fields_of (Write f) bytes = write_fields f bytes (count_of f bytes)
-fields_of (Ask q) bytes = fields true (request.Read q)
+fields_of (Ask q) bytes = Some (request.Read q)
 fields_of AskSettings bytes = settings_fields (get_or bytes 2 0) (get_or bytes 3 0) (get_or bytes 4 0)
-fields_of Unknown bytes = fields false (request.Refused UnknownCommand)
+fields_of Unknown bytes = None
 
 -- those of a whole request, by its own command
-abbrev pub fields_in : List ℕ → Fields
+abbrev pub fields_in : List ℕ → Option Request
 fields_in bytes = fields_of (expected_in bytes).command bytes
 
 -- ---- when it is refused
@@ -149,7 +149,7 @@ wrong_length s = wrong_length_by (expected_in s).length s
 
 -- a field outside its rule: address, count, option or padding
 abbrev pub wrong_field : List ℕ → Bool
-wrong_field s = not (fields_in s).good
+wrong_field s = not (is_some (fields_in s))
 
 -- the rows of a request, the lowest number first
 abbrev pub request_rows : List ℕ → List (Refusal × Bool)
@@ -163,14 +163,17 @@ request_rows s =
 
 -- ---- what it comes to: what its fields ask where no row applies, else the refusal that is first
 
-abbrev pub asked_of : List ℕ → Request
-asked_of s = (fields_in s).asks
+abbrev pub Asked : Type 0
+Asked = Result Request Refusal
 
-abbrev pub request_by : Outcome → Request → Request
-request_by outcome.Done asked = asked
-request_by (outcome.Refused refusal) asked = request.Refused refusal
+abbrev pub asked_of : List ℕ → Asked
+asked_of s = ok_or (fields_in s) WrongField
 
-unfoldable pub request_of : List ℕ → Request
+abbrev pub request_by : Outcome → Asked → Asked
+request_by (Ok done) asked = asked
+request_by (Err refusal) asked = Err refusal
+
+unfoldable pub request_of : List ℕ → Asked
 request_of s = request_by (first (request_rows s)) (asked_of s)
 
 -- ---- what its reply is like

@@ -2,14 +2,15 @@
 #![tactic(auto)]
 
 ghost use Rattle.std.specs.Prelude.{◌≡◌, ◌-◌, ◌≤◌};
-ghost use Rattle.requests.specs.Requests.{expect, expected_of, expected_in, length_of, in_one_range, cleared_by, clear_fields, block_fields, address_at, all_shown, list_fields, write_fields, kind_of, settings_fields, fields_of, is_unknown, right_length, wrong_length_by, foreign, damaged, request_of, command_of, has_length, high_first, marks, word_count};
+ghost use Rattle.requests.specs.Requests.{expect, expected_of, expected_in, length_of, in_one_range, clear_fields, block_fields, address_at, all_shown, list_fields, write_fields, kind_of, settings_fields, fields_of, is_unknown, right_length, wrong_length_by, foreign, damaged, request_of, command_of, has_length, high_first, marks, word_count};
 
 use numbers::{byte_at, high_first_16, low_first_16};
 use refusals::Refusal;
 use settings::Kind;
 use writes::Form;
 
-// A request that changes nothing but 0x11's mark. A reply to it is a head and words of sixteen bits.
+// A request that changes nothing but 0x11's mark. A reply to it is a head and words of sixteen bits. A command is kept as its byte, which the
+// reply repeats.
 #[derive(Clone, Copy)]
 pub enum Query {
     Registers { command: u8, at: u16, count: u8 }, // 0x03 and 0x07
@@ -22,7 +23,7 @@ pub enum Query {
     SettingsOf { kind: Kind, count: u8 },
 }
 
-// What a command byte stands for; the fields of some are still to be read.
+// What a command byte stands for; the fields of some are still to be read. Every byte stands for something, so an unknown one is a case.
 #[derive(Clone, Copy)]
 pub enum Command {
     Clear,
@@ -42,17 +43,9 @@ pub struct Expected {
     pub command: Command,
 }
 
-// What a request asks by its fields, and whether each keeps its rule.
-#[derive(Clone, Copy)]
-pub struct Fields {
-    pub good: bool,
-    pub asks: Request,
-}
-
-// What a whole request comes to: a refusal, or what it asks.
+// What a whole request asks.
 #[derive(Clone, Copy)]
 pub enum Request {
-    Refused(Refusal),
     ClearEvents,
     ClearStatistics,
     Write { form: Form, count: u8 },
@@ -72,6 +65,7 @@ impl Command {
 
 impl Query {
     // The command byte that it came with.
+    #[tactic(auto, unfolding(crate::specs::Requests::command_of))]
     pub fn command(self) -> u8
         ensures { result ≡ command_of self }
     {
@@ -96,6 +90,7 @@ impl Query {
     }
 
     // 0x14 to 0x19 have no length byte.
+    #[tactic(auto, unfolding(crate::specs::Requests::has_length))]
     pub fn has_length(self) -> bool
         ensures { result ≡ has_length self }
     {
@@ -110,6 +105,7 @@ impl Query {
     }
 
     // Registers by 0x03 go high byte first.
+    #[tactic(auto, unfolding(crate::specs::Requests::high_first))]
     pub fn high_first(self) -> bool
         ensures { result ≡ high_first self }
     {
@@ -135,6 +131,7 @@ impl Query {
     }
 
     // How many words the reply has, where so many events are new, so many kept, and there are so many cells.
+    #[tactic(auto, unfolding(crate::specs::Requests::word_count))]
     pub fn word_count(self, new: u8, kept: u8, cells: u8) -> u16
         ensures { result ≡ word_count self new kept cells }
     {
@@ -160,28 +157,25 @@ impl Query {
 }
 
 // A whole request, of any bytes.
-pub fn parsed(bytes: &[u8]) -> Request
+#[tactic(auto, unfolding(refusals::specs::Refusals::first, crate::specs::Requests::request_of))]
+pub fn parsed(bytes: &[u8]) -> Result<Request, Refusal>
     ensures { result ≡ request_of bytes.now }
 {
     if is_foreign(bytes) {
-        return Request::Refused(Refusal::Foreign);
+        return Err(Refusal::Foreign);
     }
     if is_damaged(bytes) {
-        return Request::Refused(Refusal::Damaged);
+        return Err(Refusal::Damaged);
     }
     let expected = expected_in(bytes);
     let command = expected.command;
     if command.is_unknown() {
-        return Request::Refused(Refusal::UnknownCommand);
+        return Err(Refusal::UnknownCommand);
     }
     if is_wrong_length(bytes, expected.length) {
-        return Request::Refused(Refusal::WrongLength);
+        return Err(Refusal::WrongLength);
     }
-    let read = fields_of(command, bytes);
-    if read.good {
-        return read.asks;
-    }
-    Request::Refused(Refusal::WrongField)
+    fields_of(command, bytes).ok_or(Refusal::WrongField)
 }
 
 // Under 4 bytes, or the first is not 0xAA.
@@ -195,7 +189,7 @@ fn is_foreign(bytes: &[u8]) -> bool
 fn is_damaged(bytes: &[u8]) -> bool
     ensures { result ≡ damaged bytes.now }
 {
-    let end = two_less(bytes.len());
+    let end = bytes.len().saturating_sub(2);
     crc::crc(&bytes[..end]) != low_first_16(bytes, end)
 }
 
@@ -216,13 +210,8 @@ fn right_length(command: u8, rl: u8, taken: usize) -> usize
     }
 }
 
-fn two_less(n: usize) -> usize
-    ensures { result ≡ n - 2 }
-{
-    if n < 2 { 0 } else { n - 2 }
-}
-
 // The length of the request that these bytes begin; it is more than there is until the byte that decides it has come.
+#[tactic(auto, unfolding(crate::specs::Requests::length_of))]
 pub fn length_of(bytes: &[u8]) -> usize
     ensures { (result ≡ length_of bytes.now) × (result ≤ 264) }
 {
@@ -230,6 +219,7 @@ pub fn length_of(bytes: &[u8]) -> usize
 }
 
 // The i-th address of a list.
+#[tactic(auto, unfolding(crate::specs::Requests::address_at))]
 pub fn address_at(bytes: &[u8], i: u16) -> u16
     ensures { result ≡ address_at bytes.now i }
 {
@@ -243,6 +233,7 @@ fn expected_in(bytes: &[u8]) -> Expected
 }
 
 // The command byte decides the length and the meaning; PL is the third byte, or the seventh.
+#[tactic(auto, unfolding(crate::specs::Requests::expected_of))]
 fn expected_of(command: u8, third: u8, seventh: u8) -> Expected
     ensures { result ≡ expected_of command third seventh }
 {
@@ -269,7 +260,9 @@ fn expected_of(command: u8, third: u8, seventh: u8) -> Expected
     }
 }
 
-fn fields_of(command: Command, bytes: &[u8]) -> Fields
+// What a request asks by its fields; none where one of them is against its rule.
+#[tactic(auto, unfolding(crate::specs::Requests::fields_of))]
+fn fields_of(command: Command, bytes: &[u8]) -> Option<Request>
     ensures { result ≡ fields_of command bytes.now }
 {
     match command {
@@ -283,59 +276,43 @@ fn fields_of(command: Command, bytes: &[u8]) -> Fields
         Command::QuickBlock => block(0x07, low_first_16(bytes, 3), 0, byte_at(bytes, 2)),
         Command::AskList => list(byte_at(bytes, 2), bytes),
         Command::Write(form) => write(form, bytes, writes::count_of(form, bytes)),
-        Command::Ask(query) => Fields {
-            good: true,
-            asks: Request::Read(query),
-        },
+        Command::Ask(query) => Some(Request::Read(query)),
         Command::AskSettings => settings_of(
             byte_at(bytes, 2),
             byte_at(bytes, 3),
             byte_at(bytes, 4),
         ),
-        Command::Unknown => Fields {
-            good: false,
-            asks: Request::Refused(Refusal::UnknownCommand),
-        },
+        Command::Unknown => None,
     }
 }
 
-fn clear(option: u8) -> Fields
+fn clear(option: u8) -> Option<Request>
     ensures { result ≡ clear_fields option }
 {
-    Fields {
-        good: (1 <= option) & (option <= 2),
-        asks: cleared(option),
+    match option {
+        1 => Some(Request::ClearEvents),
+        2 => Some(Request::ClearStatistics),
+        _ => None,
     }
 }
 
-fn cleared(option: u8) -> Request
-    ensures { result ≡ cleared_by option }
-{
-    if option == 1 {
-        return Request::ClearEvents;
-    }
-    Request::ClearStatistics
-}
-
-fn block(command: u8, at: u16, padding: u8, rl: u8) -> Fields
+fn block(command: u8, at: u16, padding: u8, rl: u8) -> Option<Request>
     ensures { result ≡ block_fields command at padding rl }
 {
     let good = (padding == 0) & ((1 <= rl) & (rl <= 127)) & is_in_one_range(at, rl);
-    let asks = Request::Read(Query::Registers {
+    good.then_some(Request::Read(Query::Registers {
         command,
         at,
         count: rl,
-    });
-    Fields { good, asks }
+    }))
 }
 
-fn list(pl: u8, bytes: &[u8]) -> Fields
+fn list(pl: u8, bytes: &[u8]) -> Option<Request>
     ensures { result ≡ list_fields pl bytes.now }
 {
     let count = pl / 2;
     let good = (pl == 2 * count) & ((1 <= count) & (count <= 63)) & are_all_shown(bytes, count);
-    let asks = Request::Read(Query::Listed { count });
-    Fields { good, asks }
+    good.then_some(Request::Read(Query::Listed { count }))
 }
 
 // Each of the first addresses of a list lies in one of the ranges.
@@ -343,10 +320,8 @@ fn are_all_shown(bytes: &[u8], count: u8) -> bool
     ensures { result ≡ all_shown bytes.now count }
 {
     let mut good = true;
-    let mut i: u16 = 0;
-    while i < (count as u16) {
+    for i in 0..u16::from(count) {
         good = good & is_in_one_range(address_at(bytes, i), 1);
-        i += 1;
     }
     good
 }
@@ -359,23 +334,22 @@ fn is_in_one_range(at: u16, rl: u8) -> bool
     (end <= 56) | ((100 <= first) & (end <= 118)) | ((300 <= first) & (end <= 400))
 }
 
-fn write(form: Form, bytes: &[u8], count: u8) -> Fields
+fn write(form: Form, bytes: &[u8], count: u8) -> Option<Request>
     ensures { result ≡ write_fields form bytes.now count }
 {
     let good = writes::keeps_rules(form, bytes, count);
-    let asks = Request::Write { form, count };
-    Fields { good, asks }
+    good.then_some(Request::Write { form, count })
 }
 
-fn settings_of(option: u8, padding: u8, rl: u8) -> Fields
+fn settings_of(option: u8, padding: u8, rl: u8) -> Option<Request>
     ensures { result ≡ settings_fields option padding rl }
 {
     let good = ((1 <= option) & (option <= 4)) & (padding == 0) & ((1 <= rl) & (rl <= 100));
     let kind = kind_of(option);
-    let asks = Request::Read(Query::SettingsOf { kind, count: rl });
-    Fields { good, asks }
+    good.then_some(Request::Read(Query::SettingsOf { kind, count: rl }))
 }
 
+#[tactic(auto, unfolding(crate::specs::Requests::kind_of))]
 fn kind_of(option: u8) -> Kind
     ensures { result ≡ kind_of option }
 {

@@ -15,9 +15,8 @@ use lib.Signed.{mag}
 use mir.Syntax.{w16}
 use mir.Val.{sel}
 use Rattle.laws.specs.History.{any}
-use Rattle.refusals.specs.declared.Outcome.{Outcome}
-use Rattle.refusals.specs.declared.Outcome.TheVariants.{Done, Refused}
-use Rattle.refusals.specs.Refusals.{is_done, first}
+use Rattle.refusals.specs.Refusals.{Outcome, Done, Refused, is_done, giving, first}
+use Rattle.std.specs.Prelude.{Ok, Err}
 use Rattle.refusals.proofs.Rows.{off}
 use Rattle.signed.specs.Signed.{bits_of, from_bits}
 use Rattle.signed.proofs.Read.{read}
@@ -118,20 +117,14 @@ module _ (d : Draft) (at value : ℕ) (hundred : Hundred d) where
       among true = refl
       among false = refl
 
--- and what stands is left
-pub put_standing : (d : Draft) (at value : ℕ) → (put_of d at value).standing ≡ d.standing
-unfolding put_of
-put_standing d at value = refl
+-- a draft of values that are put one by one
+abbrev pub drafting : List ℕ → Draft
+drafting values = record { values = values }
 
--- a draft of what stands and of values that are put one by one
-abbrev pub holding : Settings → List ℕ → Draft
-holding standing values = record { standing = standing; values = values }
-
-pub put_among : {d : Draft} {standing : Settings} {values after : List ℕ} {at value : ℕ} → Put values at value after
-    → holding standing values ≡ d → holding standing after ≡ put_of d at value
+pub put_among : {d : Draft} {values after : List ℕ} {at value : ℕ} → Put values at value after → drafting values ≡ d
+    → drafting after ≡ put_of d at value
 unfolding put_of
-put_among {standing = standing} {at = at} {value = value} p e =
-    ap (holding standing) p.put ∙ ap (λ (draft : Draft). put_of draft at value) e
+put_among {at = at} {value = value} p e = ap drafting p.put ∙ ap (λ (draft : Draft). put_of draft at value) e
 
 -- ---- a draft begun
 
@@ -293,17 +286,22 @@ done_unlisted d e at l m u =
     let most = leb-true (value_in d.values at) 0 (sym (unlisted_range at u _) ∙ ((done_is d).0 e).0 at l m) in omega arith
 
 -- taken whole or not at all
-pub done_stands : (d : Draft) → outcome_of d ≡ Done → (written_of d).settings ≡ settings_in d
+pub done_stands : (s : Settings) (d : Draft) → outcome_of d ≡ Done → standing_of s (written_of d) ≡ settings_in d
 unfolding standing_of
-done_stands d e = ap (standing_of d) e
+done_stands s d e = ap (λ (o : Outcome). standing_of s (giving o (settings_in d))) e
 
-pub refused_stands : (d : Draft) → is_done (outcome_of d) ≡ false → (written_of d).settings ≡ d.standing
+pub refused_stands : (s : Settings) (d : Draft) → is_done (outcome_of d) ≡ false → standing_of s (written_of d) ≡ s
 unfolding standing_of
-refused_stands d e = go (outcome_of d) e
+refused_stands s d e = go (outcome_of d) e
   where
-    go : (o : Outcome) → is_done o ≡ false → standing_of d o ≡ d.standing
-    go Done e = absurd (false≢true (sym e))
-    go (Refused refusal) e = refl
+    go : (o : Outcome) → is_done o ≡ false → standing_of s (giving o (settings_in d)) ≡ s
+    go (Ok done) e = absurd (false≢true (sym e))
+    go (Err refusal) e = refl
+
+pub given_stands : (s : Settings) (o : Outcome) (written : Settings) → giving o (standing_of s (giving o written)) ≡ giving o written
+unfolding standing_of
+given_stands s (Ok done) written = refl
+given_stands s (Err refusal) written = refl
 
 -- a setting in range is between the least and the greatest; 320 aside, which is signed
 pub between : (s : Settings) → in_range s ≡ true → (register : ℕ) → 300 ≤ register → register ≤ 399 → eqb register 320 ≡ false

@@ -5,9 +5,7 @@ use mathlib.Core.Bool.{true}
 use mathlib.Core.List.{List, [], ◌∷◌, map}
 use Prim.Native.Nat.{ℕ}
 use Rattle.refusals.specs.declared.Refusal.TheVariants.{OutOfRange, OutOfOrder}
-use Rattle.refusals.specs.declared.Outcome.{Outcome}
-use Rattle.refusals.specs.declared.Outcome.TheVariants.{Done, Refused}
-use Rattle.refusals.specs.Refusals.{first}
+use Rattle.refusals.specs.Refusals.{Outcome, Done, Refused, first}
 use Rattle.signed.specs.Signed.{bits_of, from_bits}
 use Rattle.settings.specs.declared.Settings.{Settings}
 use Rattle.settings.specs.declared.Draft.{Draft}
@@ -81,7 +79,7 @@ lowest_told : (outcome_of (two 335 8 302 5) ≡ Refused (OutOfRange 302)) × (ou
 unfolding two judged_of first is_out fits registers values_of register_of settings_of put_of ordered bits_of from_bits
 lowest_told = (refl, refl, refl)
 
-later_value : register_of (written_of (two 315 4100 315 4000)).settings 315 ≡ 4000
+later_value : register_of (standing_of factory (written_of (two 315 4100 315 4000))) 315 ≡ 4000
 unfolding two judged_of first is_out fits registers values_of register_of settings_of put_of standing_of ordered bits_of from_bits
 later_value = refl
 

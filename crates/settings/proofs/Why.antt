@@ -10,8 +10,7 @@ use borrow.Author.Tests.{eqb-true, eqb-false}
 use lib.Dec.{eqb}
 use Rattle.laws.specs.History.{any}
 use Rattle.refusals.specs.declared.Refusal.TheVariants.{OutOfRange, OutOfOrder}
-use Rattle.refusals.specs.declared.Outcome.TheVariants.{Done, Refused}
-use Rattle.refusals.specs.Refusals.{number_of, register_of, is_done, first}
+use Rattle.refusals.specs.Refusals.{Done, Refused, number_of, register_of, is_done, first}
 use Rattle.settings.specs.Settings.{up_from, registers, value_in, settings_of, is_out, lowest, ordered, judged_of}
 use Rattle.settings.proofs.Drafts.{AllFit, none_out}
 

@@ -1,19 +1,17 @@
 -- The twelve settings, their ranges, and a write that is taken whole or not at all.
 -- Assumes nothing.
 use Rattle.std.specs.Prelude.{◌≡◌, Bool, ◌&&◌, not, cond, List, [], ◌∷◌, map, ℕ, zero, suc, ◌-◌, eqb, leb, ltb, ℤ, pos, negsuc, get_or, set}
+use Rattle.std.specs.Prelude.{Result, Ok, Err}
 use Rattle.std.specs.Int.Signed.{le_z}
 use Rattle.laws.specs.History.{any}
 use Rattle.refusals.specs.declared.Refusal.{Refusal}
 use Rattle.refusals.specs.declared.Refusal.TheVariants.{OutOfRange, OutOfOrder}
-use Rattle.refusals.specs.declared.Outcome.{Outcome}
-use Rattle.refusals.specs.declared.Outcome.TheVariants.{Done, Refused}
-use Rattle.refusals.specs.Refusals.{first}
+use Rattle.refusals.specs.Refusals.{Outcome, Done, Refused, giving, first}
 use Rattle.signed.specs.Signed.{bits_of, from_bits}
 use Rattle.settings.specs.declared.Settings.{Settings}
 use Rattle.settings.specs.declared.Kind.{Kind}
 use Rattle.settings.specs.declared.Kind.TheVariants.{Minimum, Maximum, Default, Current}
 use Rattle.settings.specs.declared.Draft.{Draft}
-use Rattle.settings.specs.declared.Written.{Written}
 
 -- the factory, least and greatest settings
 abbrev pub factory : Settings
@@ -162,14 +160,14 @@ judged_of values = first (write_rows values)
 
 -- a write under way on the settings s: nothing is written yet
 abbrev pub draft_of : Settings → Draft
-draft_of s = record { standing = s; values = values_of s }
+draft_of s = record { values = values_of s }
 
 -- one register of it: a repeated address takes the later value. A register outside 300 to 399 is no setting
 abbrev pub put_in : List ℕ → ℕ → ℕ → List ℕ
 put_in values at value = cond (leb 300 at && leb at 399) (set values (at - 300) value) values
 
 unfoldable pub put_of : Draft → ℕ → ℕ → Draft
-put_of d at value = record { standing = d.standing; values = put_in d.values at value }
+put_of d at value = record { values = put_in d.values at value }
 
 -- `after` is `before` with one register put
 pub record Put (before : List ℕ) (at value : ℕ) (after : List ℕ) : Type 0 where
@@ -182,10 +180,11 @@ outcome_of d = judged_of d.values
 abbrev pub settings_in : Draft → Settings
 settings_in d = settings_of d.values
 
--- a write is taken whole or not at all: the settings that then stand
-unfoldable pub standing_of : Draft → Outcome → Settings
-standing_of d Done = settings_in d
-standing_of d (Refused refusal) = d.standing
+-- a write is taken whole or not at all
+abbrev pub written_of : Draft → Result Settings Refusal
+written_of d = giving (outcome_of d) (settings_in d)
 
-abbrev pub written_of : Draft → Written
-written_of d = record { outcome = outcome_of d; settings = standing_of d (outcome_of d) }
+-- the settings that then stand, where these stood
+unfoldable pub standing_of : Settings → Result Settings Refusal → Settings
+standing_of standing (Ok written) = written
+standing_of standing (Err refusal) = standing

@@ -5,9 +5,9 @@ ghost use Rattle.std.specs.Prelude.{◌≡◌, ◌&&◌, ◌+◌, min};
 ghost use Rattle.std.specs.Int.Signed.{le_z};
 ghost use Rattle.laws.specs.Row.{row};
 ghost use Rattle.settings.specs.Settings.{factory, of_kind, register_of, values_of, settings_of, meant_by, ordered};
-ghost use Rattle.settings.specs.Settings.{judged_of, draft_of, Put, standing_of, written_of};
+ghost use Rattle.settings.specs.Settings.{judged_of, draft_of, Put, written_of};
 
-use refusals::{Outcome, Refusal};
+use refusals::Refusal;
 
 // No reply has more.
 const WORDS: usize = 127;
@@ -39,18 +39,10 @@ pub enum Kind {
     Current,
 }
 
-// A write under way: what stands, and the values of registers 300 to 399 as they would stand.
+// A write under way: the values of registers 300 to 399 as they would stand.
 #[derive(Clone, Copy)]
 pub struct Draft {
-    pub standing: Settings,
     pub values: [u16; 100],
-}
-
-// What a write came to, and the settings that stand after it.
-#[derive(Clone, Copy)]
-pub struct Written {
-    pub outcome: Outcome,
-    pub settings: Settings,
 }
 
 impl Settings {
@@ -106,6 +98,7 @@ impl Settings {
     }
 
     // The settings of a kind, where the current ones are these.
+    #[tactic(auto, unfolding(crate::specs::Settings::of_kind))]
     pub fn of_kind(self, kind: Kind) -> Settings
         ensures { result ≡ of_kind self kind }
     {
@@ -118,6 +111,7 @@ impl Settings {
     }
 
     // A register's value by its number; an unlisted one reads 0.
+    #[tactic(auto, unfolding(crate::specs::Settings::register_of))]
     pub fn register(self, at: u16) -> u16
         ensures { result ≡ register_of self at }
     {
@@ -145,16 +139,14 @@ impl Settings {
         let count = numbers::up_to_127(count);
         let first = 300 + (from as u16);
         let mut words = [0; WORDS];
-        let mut i: u16 = 0;
-        while i < count {
+        for i in 0..count {
             words[i as usize] = self.register(first + i);
-            i += 1;
         }
         words
     }
 
     // A whole set of settings is judged as a write of it would be.
-    pub fn judged(self) -> Outcome
+    pub fn judged(self) -> Result<(), Refusal>
         ensures { result ≡ judged_of (values_of self) }
     {
         judged(self.values())
@@ -165,12 +157,12 @@ impl Settings {
         ensures { result ≡ draft_of self }
     {
         Draft {
-            standing: self,
             values: self.values(),
         }
     }
 
     // The values of registers 300 to 399.
+    #[tactic(auto, unfolding(crate::specs::Settings::register_of, crate::specs::Settings::registers, crate::specs::Settings::values_of))]
     fn values(self) -> [u16; 100]
         ensures { result ≡ values_of self }
     {
@@ -191,6 +183,7 @@ impl Settings {
     }
 
     // The settings that those values of registers 300 to 399 are.
+    #[tactic(auto, unfolding(crate::specs::Settings::settings_of))]
     fn of(values: [u16; 100]) -> Settings
         ensures { result ≡ settings_of values }
     {
@@ -210,6 +203,7 @@ impl Settings {
         }
     }
 
+    #[tactic(auto, unfolding(crate::specs::Settings::ordered))]
     fn ordered(self) -> bool
         ensures { result ≡ ordered self }
     {
@@ -218,26 +212,12 @@ impl Settings {
 }
 
 impl Draft {
-    // The write ends: it is taken whole or not at all.
-    pub fn finish(self) -> Written
+    // The write ends, taken whole or not at all: the settings that it leaves.
+    pub fn finish(self) -> Result<Settings, Refusal>
         ensures { result ≡ written_of self }
     {
-        let values = self.values;
-        let outcome = judged(values);
-        let settings = self.stands(outcome);
-        Written { outcome, settings }
-    }
-
-    fn stands(self, outcome: Outcome) -> Settings
-        ensures { result ≡ standing_of self outcome }
-    {
-        let standing = self.standing;
-        let values = self.values;
-        let drafted = Settings::of(values);
-        match outcome {
-            Outcome::Done => drafted,
-            Outcome::Refused(_) => standing,
-        }
+        judged(self.values)?;
+        Ok(Settings::of(self.values))
     }
 }
 
@@ -252,23 +232,21 @@ pub fn put_value(values: &mut [u16; 100], at: u32, value: u16)
 }
 
 // The one judgement: the lowest register out of its range, then the ordering rule.
-fn judged(values: [u16; 100]) -> Outcome
+fn judged(values: [u16; 100]) -> Result<(), Refusal>
     ensures { result ≡ judged_of values }
 {
     let least = Settings::MINIMUM.values();
     let greatest = Settings::MAXIMUM.values();
-    let mut i: u16 = 0;
-    while i < 100 {
+    for i in 0..100 {
         let place = i as usize;
         if !is_in_range(300 + i, values[place], least[place], greatest[place]) {
-            return Outcome::Refused(Refusal::OutOfRange(300 + i));
+            return Err(Refusal::OutOfRange(300 + i));
         }
-        i += 1;
     }
     if Settings::of(values).ordered() {
-        Outcome::Done
+        Ok(())
     } else {
-        Outcome::Refused(Refusal::OutOfOrder)
+        Err(Refusal::OutOfOrder)
     }
 }
 
@@ -287,8 +265,8 @@ fn meant_by(at: u16, bits: u16) -> i32
     ensures { result ≡ meant_by at bits }
 {
     if at == 320 {
-        signed::wide(signed::from_bits(bits))
+        i32::from(signed::from_bits(bits))
     } else {
-        bits as i32
+        i32::from(bits)
     }
 }

@@ -1,18 +1,18 @@
--- A signed number and half the range of its width: an unsigned number from which its bits, its sides of zero and its whole
--- degrees are told. A signed local holds bits, so what the code reads is `to_z w (of_z w z)`.
+-- A signed number and half the range of its width: an unsigned number that compares as it does. A signed local holds bits, so what the
+-- code reads is `to_z w (of_z w z)`.
 -- Assumes nothing.
-use mathlib.Core.Path.{◌≡◌, refl, ap}
-use Prim.Native.Nat.{ℕ, zero, suc, ◌+◌, ◌-◌, ◌/◌, ◌%◌, ◌<◌, ◌≤◌, ◌^◌, min, max}
-use native.Mathlib.Nat.{add_comm, zero-add}
+use mathlib.Core.Path.{◌≡◌, ap}
+use Prim.Native.Nat.{ℕ, suc, ◌+◌, ◌<◌, ◌≤◌, ◌^◌}
+use native.Mathlib.Nat.{add_comm}
 use native.Mathlib.Omega.{arith}
 use lib.Dec.{T, leb}
-use lib.IntN.{ℤ, pos, negsuc, ◌-ℤ◌, ◌+ℤ◌}
+use lib.IntN.{ℤ, pos, negsuc, ◌+ℤ◌}
 use lib.Signed.{mag}
 use mir.Syntax.{Width}
 use mir.Val.{SFits, to_z, of_z, hbits}
 use mir.Facts.{to_z-of_z, to_z_pos, sfits_widen}
 use borrow.Author.Tests.{le-ltb}
-use Rattle.signed.specs.Signed.{lift, bits_of, above, below, degrees_of}
+use Rattle.signed.specs.Signed.{lift}
 
 module _ (h : ℕ) where
   lift_sum : (z : ℤ) → mag z < h → z +ℤ pos h ≡ pos (lift h z)
@@ -22,14 +22,6 @@ module _ (h : ℕ) where
   pub lift_lt : (z : ℤ) → mag z < h → lift h z < h + h
   lift_lt (pos n) f = omega arith
   lift_lt (negsuc n) f = omega arith
-
-  pub above_lifted : (z : ℤ) → mag z < h → lift h z - h ≡ above z
-  above_lifted (pos n) f = omega arith
-  above_lifted (negsuc n) f = omega arith
-
-  pub below_lifted : (z : ℤ) → mag z < h → h - lift h z ≡ below z
-  below_lifted (pos n) f = omega arith
-  below_lifted (negsuc n) f = omega arith
 
 -- z of the width w, read at a width w' that is wider
 module _ (w w' : Width) (z : ℤ) (wider : T (leb (hbits w) (hbits w'))) (f : SFits w z) where
@@ -52,25 +44,3 @@ module _ (w w' : Width) (z : ℤ) (wider : T (leb (hbits w) (hbits w'))) (f : SF
 
     pub raised_read : to_z w' (of_z w' (to_z w' (of_z w' (to_z w (of_z w z))) +ℤ pos (2 ^ hbits w))) ≡ pos (lift (2 ^ hbits w) z)
     raised_read = rw raised (to_z_pos w' {n = lift (2 ^ hbits w) z} raised_lt)
-
-pub bits_lifted : (z : ℤ) → mag z < 32768 → (lift 32768 z + 32768) % 65536 ≡ bits_of z
-unfolding bits_of
-bits_lifted (pos n) h = omega arith
-bits_lifted (negsuc n) h = omega arith
-
-pub degrees_of_lifted : (z : ℤ) → mag z < 32768 → (min 3404 (max 3149 ((lift 32768 z + 2) / 10)) - 3149 + 128) % 256 ≡ degrees_of z
-unfolding degrees_of
-degrees_of_lifted (pos n) h = omega arith
-degrees_of_lifted (negsuc n) h = omega arith
-
-pub minus_one_less : (n : ℕ) → negsuc 0 -ℤ pos n ≡ negsuc n
-minus_one_less zero = refl
-minus_one_less (suc n) = ap (λ (k : ℕ). negsuc (suc k)) (zero-add n)
-
--- the upper half of the bits of a width stands for the numbers below zero: the last for -1
-module _ (w : Width) (n : ℕ) (f : n < 2 ^ hbits w) where
-  pub below_zero_fits : SFits w (negsuc 0 -ℤ to_z w n)
-  below_zero_fits = rw (to_z_pos w {n = n} f, minus_one_less) (record { sfits = f })
-
-  pub below_zero : (b : ℕ) → of_z w (negsuc n) ≡ b → to_z w (of_z w (negsuc 0 -ℤ to_z w n)) ≡ to_z w b
-  below_zero b e = rw (to_z_pos w {n = n} f, minus_one_less) (ap (to_z w) e)

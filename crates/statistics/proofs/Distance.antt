@@ -13,3 +13,7 @@ stopped p k some held =
     min_cases 281474976710656 p _
     (λ h e. rw e (omega (arith, past p k some held h, past 281474976710656 k some held (omega arith))))
     (λ h e. rw e)
+
+-- as the code has it
+pub held : (p k : ℕ) → 0 < k → k ≤ 65535 → min (100 * min p 281474976710656 / k) 4294967295 ≡ min 4294967295 (100 * p / k)
+held p k some m = let e : min p 281474976710656 ≡ min 281474976710656 p = omega arith in rw e (omega (arith, stopped p k some m))

@@ -14,8 +14,12 @@ use readings::Readings;
 // No reply has more words.
 const WORDS: usize = 127;
 
+// Past so many pulses, 2^48, every distance has stopped at its end.
+const MOST_PULSES: u64 = 281474976710656;
+
+// C holds this struct by its fields: so a flag beside the two, and no Option of them.
 #[repr(C)]
-#[derive(Clone, Copy)]
+#[derive(Clone, Copy, Default)]
 pub struct Temperatures {
     pub coldest: i16, // external, 0.1 °C
     pub hottest: i16,
@@ -23,7 +27,7 @@ pub struct Temperatures {
 }
 
 #[repr(C)]
-#[derive(Clone, Copy)]
+#[derive(Clone, Copy, Default)]
 pub struct Counts {
     pub uv: u16,
     pub ov: u16,
@@ -35,14 +39,14 @@ pub struct Counts {
 
 // Of the mA of each tick, exact up to the largest value.
 #[repr(C)]
-#[derive(Clone, Copy)]
+#[derive(Clone, Copy, Default)]
 pub struct Sums {
     pub positive: u64,
     pub negative: u64, // as a positive number
 }
 
 #[repr(C)]
-#[derive(Clone, Copy)]
+#[derive(Clone, Copy, Default)]
 pub struct Statistics {
     pub temperatures: Temperatures,
     pub counts: Counts,
@@ -56,40 +60,22 @@ pub struct Statistics {
 
 impl Statistics {
     // As a clear leaves them.
+    #[tactic(auto, unfolding(crate::specs::Statistics::cleared_at))]
     pub fn cleared_at(lifetime: u32) -> Statistics
         ensures { result ≡ cleared_at lifetime }
     {
         Statistics {
-            temperatures: Temperatures {
-                coldest: 0,
-                hottest: 0,
-                seen: false,
-            },
-            counts: Counts {
-                uv: 0,
-                ov: 0,
-                doc: 0,
-                charge: 0,
-                ot: 0,
-                charging: 0,
-            },
-            sums: Sums {
-                positive: 0,
-                negative: 0,
-            },
-            pulses: 0,
-            drawn: 0,
-            fed: 0,
-            difference: 0,
             cleared: lifetime,
+            ..Statistics::default()
         }
     }
 
     // A tick's pulses, by which the distance grows.
+    #[tactic(auto, unfolding(crate::specs::Statistics::ridden_of))]
     pub fn ridden(mut self, pulses: u16) -> Statistics
         ensures { result ≡ ridden_of self pulses }
     {
-        self.pulses = more_pulses(self.pulses, pulses);
+        self.pulses = self.pulses.saturating_add(pulses as u64).min(MOST_PULSES);
         self
     }
 
@@ -110,9 +96,13 @@ impl Statistics {
             .with(readings.external2);
         let counts = self.counts.next(before, after, entered);
         let sums = self.sums.with(readings.current);
-        let drawn = higher(self.drawn, in_hundreds(signed::negative(readings.current)));
-        let fed = higher(self.fed, in_hundreds(signed::positive(readings.current)));
-        let difference = higher(self.difference, extremes.difference());
+        let drawn = self
+            .drawn
+            .max(in_hundreds(signed::negative(readings.current)));
+        let fed = self
+            .fed
+            .max(in_hundreds(signed::positive(readings.current)));
+        let difference = self.difference.max(extremes.difference());
         Statistics {
             temperatures,
             counts,
@@ -126,22 +116,24 @@ impl Statistics {
     }
 
     // In 0.01 km, on a board with those pulses per km.
+    #[tactic(auto, unfolding(crate::specs::Statistics::distance_of))]
     pub fn distance(self, per_km: u16) -> u32
         ensures { result ≡ distance_of self.pulses per_km }
     {
         if per_km == 0 {
             return 0;
         }
-        held_to_32_bits(100 * held_pulses(self.pulses) / (per_km as u64))
+        (100 * self.pulses.min(MOST_PULSES) / (per_km as u64)).min(u32::MAX as u64) as u32
     }
 
     // What the desk gets at a handover, for the pack of that number, at that lifetime.
+    #[tactic(auto, unfolding(crate::specs::Statistics::bill_of))]
     pub fn billed(self, pack: u32, per_km: u16, lifetime: u32) -> Record
         ensures { result ≡ bill_of self pack per_km lifetime }
     {
         Record {
             pack,
-            seconds: over(lifetime, self.cleared),
+            seconds: lifetime.saturating_sub(self.cleared),
             positive: self.sums.positive,
             negative: self.sums.negative,
             distance: self.distance(per_km),
@@ -156,15 +148,14 @@ impl Statistics {
         let count = numbers::up_to_127(count);
         let first = 100 + (from as u16);
         let mut words = [0; WORDS];
-        let mut i: u16 = 0;
-        while i < count {
+        for i in 0..count {
             words[i as usize] = self.register(per_km, first + i);
-            i += 1;
         }
         words
     }
 
     // A register of 100 to 117; an unlisted one reads 0.
+    #[tactic(auto, unfolding(crate::specs::Statistics::register_of))]
     fn register(self, per_km: u16, at: u16) -> u16
         ensures { result ≡ register_of self per_km at }
     {
@@ -211,6 +202,7 @@ impl Temperatures {
         }
     }
 
+    #[tactic(auto, unfolding(crate::specs::Statistics::temperatures_shown))]
     fn shown(self) -> u16
         ensures { result ≡ temperatures_shown self }
     {
@@ -224,6 +216,7 @@ impl Temperatures {
 }
 
 impl Counts {
+    #[tactic(auto, unfolding(crate::specs::Statistics::counts_of))]
     fn next(self, before: Conditions, after: Conditions, entered: bool) -> Counts
         ensures { result ≡ counts_of self before after entered }
     {
@@ -257,20 +250,15 @@ impl Counts {
 }
 
 impl Sums {
+    #[tactic(auto, unfolding(crate::specs::Statistics::summed_of))]
     fn with(self, current: i32) -> Sums
         ensures { result ≡ summed_of self current }
     {
+        let fed = signed::positive(current) as u64;
+        let drawn = signed::negative(current) as u64;
         Sums {
-            positive: sum_of(
-                self.positive,
-                signed::positive(current) as u64,
-                18446744073709551615,
-            ),
-            negative: sum_of(
-                self.negative,
-                signed::negative(current) as u64,
-                18446744073709551615,
-            ),
+            positive: self.positive.saturating_add(fed),
+            negative: self.negative.saturating_add(drawn),
         }
     }
 }
@@ -278,60 +266,11 @@ impl Sums {
 fn counted_up(n: u16, more: bool) -> u16
     ensures { result ≡ count_of n more }
 {
-    if !more {
-        return n;
-    }
-    if n < 65535 { n + 1 } else { 65535 }
-}
-
-fn higher(a: u16, b: u16) -> u16
-    ensures { result ≡ max a b }
-{
-    if a < b { b } else { a }
+    if more { n.saturating_add(1) } else { n }
 }
 
 fn in_hundreds(milliamps: u32) -> u16
     ensures { result ≡ hundreds milliamps }
 {
-    let n = milliamps / 100;
-    if n < 65535 { n as u16 } else { 65535 }
-}
-
-// A sum that stops at the most that it may be.
-fn sum_of(sum: u64, more: u64, most: u64) -> u64
-    requires { more ≤ most }
-    ensures { result ≡ min most (sum + more) }
-{
-    if sum < most - more { sum + more } else { most }
-}
-
-// By how much the one is over the other; 0 if it is not.
-fn over(n: u32, other: u32) -> u32
-    ensures { result ≡ n - other }
-{
-    if other < n { n - other } else { 0 }
-}
-
-// Past 2^48 pulses every distance has stopped at its end.
-
-fn more_pulses(sum: u64, pulses: u16) -> u64
-    ensures { result ≡ ridden_pulses sum pulses }
-{
-    sum_of(sum, pulses as u64, 281474976710656)
-}
-
-fn held_pulses(sum: u64) -> u64
-    ensures { result ≡ min 281474976710656 sum }
-{
-    if sum < 281474976710656 {
-        sum
-    } else {
-        281474976710656
-    }
-}
-
-fn held_to_32_bits(n: u64) -> u32
-    ensures { result ≡ min 4294967295 n }
-{
-    if n < 4294967295 { n as u32 } else { 4294967295 }
+    (milliamps / 100).min(u16::MAX as u32) as u16
 }

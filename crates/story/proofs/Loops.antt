@@ -1,11 +1,12 @@
 -- The two loops: one notes a tick at one kind after the other, the other looks for a cell from the last down.
 -- Assumes nothing.
-use mathlib.Core.Bool.{Bool, cond}
+use mathlib.Core.Bool.{cond}
 use mathlib.Core.Path.{◌≡◌, refl, sym, ap, ap₂, ◌∙◌}
 use mathlib.Core.List.{List, [], ◌∷◌, ◌++◌, append-nil}
-use Prim.Native.Nat.{ℕ, suc, ◌+◌, ◌-◌, ◌/◌, ◌%◌, ◌≤◌, ◌<◌}
+use Prim.Native.Nat.{ℕ, suc, ◌+◌, ◌/◌, ◌%◌, ◌≤◌, ◌<◌}
 use native.Mathlib.Numerals.{add-one}
 use native.Mathlib.Omega.{arith}
+use borrow.Author.Tests.{eq-eqb, ne_eqb}
 use lib.Dec.{eqb}
 use lib.ListN.{length, take, drop, get_or, set, length-set, drop_of_length-le}
 use lib.Seq.{drop-cons, take-suc-set, drop-set-lt, append_snoc, take_all}
@@ -53,36 +54,21 @@ all_noted {came} {all} {bits} {tick} {rest} {i} n h =
     none : (l : List Spells) (k : ℕ) → length l ≤ k → drop k l ≡ []
     none l k h = drop_of_length-le l h
 
--- what the cells from the i-th on tell; the first is 0
-pub record Found (cells : List ℕ) (value i place : ℕ) : Type 0 where
-  pub within : i ≤ length cells
-  pub found : place ≡ first_after i value (drop i cells)
+-- the first of the cells that has a value: the place of a cell, its number less one, and what is asked of those from it on
+module _ (cells : List ℕ) (value i : ℕ) where
+  at_place : i < length cells
+      → first_after i value (drop i cells)
+      ≡ cond (eqb (get_or cells i 0) value) (suc i) (first_after (suc i) value (drop (suc i) cells))
+  unfolding first_after
+  at_place h = ap (first_after i value) (drop-cons cells i 0 h)
 
-pub none_found : {cells : List ℕ} {value n : ℕ} → length cells ≡ n → Found cells value n 0
-unfolding first_after
-none_found {cells} {value} {n} e =
-    record { within = omega arith; found = ap (first_after n value) (sym (none cells n (omega arith))) }
-  where
-    none : (l : List ℕ) (k : ℕ) → length l ≤ k → drop k l ≡ []
-    none l k h = drop_of_length-le l h
+  pub first_here : i < length cells → get_or cells i 0 ≡ value → i + 1 ≡ first_after i value (drop i cells)
+  first_here h e = add-one i ∙ sym (at_place h ∙ rw (eq-eqb (get_or cells i 0) value e))
 
-pub one_found : {cells : List ℕ} {value i place next : ℕ} → Found cells value i place → 0 < i
-    → next ≡ cond (eqb (get_or cells (i - 1) 0) value) i place
-    → Found cells value (i - 1) next
-unfolding first_after
-one_found {cells} {value} {i} {place} {next} f h q =
-    let within = f.within in
-    let e : i ≡ suc (i - 1) = omega arith in
-    let l : i - 1 < length cells = omega arith in
-    let t : Bool = eqb (get_or cells (i - 1) 0) value in
-    record {
-      within = omega arith;
-      found =
-          q
-          ∙ ap (cond t i) f.found
-          ∙ ap (λ (k : ℕ). cond t k (first_after k value (drop k cells))) e
-          ∙ ap (first_after (i - 1) value) (sym (drop-cons cells (i - 1) 0 l));
-    }
+  pub first_later : i < length cells → (get_or cells i 0 ≡ value → ⊥)
+      → first_after (i + 1) value (drop (i + 1) cells) ≡ first_after i value (drop i cells)
+  first_later h e = rw add-one (sym (at_place h ∙ rw (ne_eqb (get_or cells i 0) value e)))
 
-pub all_found : {cells : List ℕ} {value i place : ℕ} → Found cells value i place → i ≡ 0 → place ≡ first_after 0 value cells
-all_found {cells} {value} {i} {place} f e = f.found ∙ ap (λ (k : ℕ). first_after k value (drop k cells)) e
+  pub first_nowhere : length cells ≤ i → 0 ≡ first_after i value (drop i cells)
+  unfolding first_after
+  first_nowhere h = sym (ap (first_after i value) (drop_of_length-le cells {i = i} h))

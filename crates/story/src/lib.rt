@@ -18,7 +18,8 @@ use spells::Spells;
 // sensor not connected: one for each bit of a tick.
 pub const KINDS: usize = 12;
 
-// The condition of the board's order; behind the last, the last.
+// The condition of that place in the board's order, which is the number of its bit; behind the last, the last.
+#[tactic(auto, unfolding(crate::specs::Story::condition_at))]
 pub fn condition(place: usize) -> Condition
     ensures { result ≡ condition_at place }
 {
@@ -39,11 +40,9 @@ pub fn noted(came: [Spells; KINDS], bits: u32, tick: u64) -> [Spells; KINDS]
 {
     let mut all = came;
     let mut rest = bits;
-    let mut i = 0;
-    while i < KINDS {
-        all[i] = all[i].with(rest % 2 == 1, tick);
-        rest = rest / 2;
-        i += 1;
+    for spells in &mut all {
+        *spells = spells.with(rest % 2 == 1, tick);
+        rest /= 2;
     }
     all
 }

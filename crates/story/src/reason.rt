@@ -1,5 +1,5 @@
 // The reading that made a condition so, or shows that it is no more.
-ghost use Rattle.std.specs.Prelude.{cond, ◌≡◌};
+ghost use Rattle.std.specs.Prelude.{◌≡◌};
 ghost use Rattle.signed.specs.Signed.{above, below};
 ghost use Rattle.story.specs.Story.{reason, first_after, cell_reason, or_hotter, hottest_of, coldest_of, reason_of};
 
@@ -8,7 +8,7 @@ use guard::Condition;
 use hire::Sensed;
 use readings::{Readings, is_connected};
 
-#[derive(Clone, Copy)]
+#[derive(Clone, Copy, Default)]
 pub struct Reason {
     pub place: u8, // of a cell, the first is 1; of a sensor, the board's own is 0; of a current 0
     pub value: u32, // 0.1 mV; a temperature lifted over zero; mA
@@ -18,9 +18,10 @@ impl Reason {
     pub fn none() -> Reason
         ensures { result ≡ reason 0 0 }
     {
-        Reason { place: 0, value: 0 }
+        Reason::default()
     }
 
+    #[tactic(auto, unfolding(crate::specs::Story::reason_of))]
     pub fn of(condition: Condition, sensed: Sensed) -> Reason
         ensures { result ≡ reason_of condition sensed }
     {
@@ -51,30 +52,21 @@ impl Reason {
 fn cell(sensed: Sensed, value: u16) -> Reason
     ensures { result ≡ cell_reason sensed value }
 {
-    let cells = sensed.cells;
     Reason {
-        place: first_place(cells, value),
-        value: value as u32,
+        place: first_place(sensed.cells, value),
+        value: u32::from(value),
     }
 }
 
-// From the last down, so that the first stands at the end.
 fn first_place(cells: [u16; 16], value: u16) -> u8
     ensures { result ≡ first_after 0 value cells }
 {
-    let mut place: u8 = 0;
-    let mut i: u8 = 16;
-    while 0 < i {
-        place = chosen(cells[(i - 1) as usize] == value, i, place);
-        i -= 1;
+    for (i, cell) in cells.iter().enumerate() {
+        if *cell == value {
+            return i as u8 + 1;
+        }
     }
-    place
-}
-
-fn chosen(yes: bool, a: u8, b: u8) -> u8
-    ensures { result ≡ cond yes a b }
-{
-    if yes { a } else { b }
+    0
 }
 
 fn current_drawn(readings: Readings) -> Reason
@@ -96,6 +88,7 @@ fn current_in(readings: Readings) -> Reason
 }
 
 // Of the connected ones; of equals the first.
+#[tactic(auto, unfolding(crate::specs::Story::hottest_of))]
 fn hottest(readings: Readings) -> Reason
     ensures { result ≡ hottest_of readings }
 {
@@ -108,6 +101,7 @@ fn hottest(readings: Readings) -> Reason
 }
 
 // Of the externals that are connected; of equals the first.
+#[tactic(auto, unfolding(crate::specs::Story::coldest_of))]
 fn coldest(readings: Readings) -> Reason
     ensures { result ≡ coldest_of readings }
 {

@@ -3,7 +3,7 @@ ghost use Rattle.std.specs.Prelude.{◌≤◌, length};
 
 use std::io::Read;
 
-// How many bytes stand in the buffer, 0 at the end, and whether no read failed.
+// How many bytes stand in the buffer, 0 at the end, and whether no read failed. No Result: the bytes before a failure count.
 #[derive(Clone, Copy)]
 pub struct Got {
     pub count: usize,
@@ -45,6 +45,7 @@ pub fn read_full<R: Read>(goes_on: bool, input: &mut R, buffer: &mut [u8]) -> Go
 {
     let mut count = 0;
     let mut next = read(goes_on, input, buffer);
+    // By how many bytes have come, which each read says.
     while 0 < next.count && count + next.count < buffer.len() {
         count += next.count;
         next = one_read(input, &mut buffer[count..]);
@@ -52,5 +53,20 @@ pub fn read_full<R: Read>(goes_on: bool, input: &mut R, buffer: &mut [u8]) -> Go
     Got {
         count: count + next.count,
         is_well: next.is_well,
+    }
+}
+
+// Records of that size, as many as the buffer holds; at the end the last may be cut. Where a read failed they are the whole ones
+// before it: none of them is cut.
+pub fn read_records<R: Read>(goes_on: bool, input: &mut R, buffer: &mut [u8], size: usize) -> Got
+    ensures { result.count ≤ length buffer.new }
+{
+    let got = read_full(goes_on, input, buffer);
+    if got.is_well {
+        return got;
+    }
+    Got {
+        count: got.count - got.count.checked_rem(size).unwrap_or(0),
+        is_well: false,
     }
 }

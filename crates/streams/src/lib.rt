@@ -5,5 +5,5 @@
 mod input;
 mod output;
 
-pub use input::{Got, read, read_full};
+pub use input::{Got, read, read_full, read_records};
 pub use output::{Waiting, put, put_number, tell, tell_failure, tell_number, with_room, written};

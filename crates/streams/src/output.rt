@@ -2,14 +2,13 @@
 // what is told on standard error.
 ghost use Rattle.std.specs.Prelude.{cond, ◌≡◌, ◌+◌, leb, length};
 
-use numbers::lesser;
 use std::io::Write;
 use text::{has_room, put_decimal};
 
 // For the longest number of 64 bits.
 const DIGITS: usize = 20;
 
-// How many bytes wait, and whether all before them are written.
+// How many bytes wait, and whether all before them are written. No Result: the count is promised after a failure too.
 #[derive(Clone, Copy)]
 pub struct Waiting {
     pub count: usize,
@@ -26,17 +25,17 @@ pub fn with_room<W: Write>(output: &mut W, out: &[u8], waiting: usize, places: u
             is_well: true,
         };
     }
-    let count = lesser(waiting, out.len());
+    let count = waiting.min(out.len());
     Waiting {
         count: 0,
-        is_well: put(true, output, &out[0..count]),
+        is_well: put(true, output, &out[..count]),
     }
 }
 
 // Whether all that waits, and all before it, is written.
 pub fn written<W: Write>(output: &mut W, out: &[u8], waiting: Waiting) -> bool {
-    let count = lesser(waiting.count, out.len());
-    put(waiting.is_well, output, &out[0..count])
+    let count = waiting.count.min(out.len());
+    put(waiting.is_well, output, &out[..count])
 }
 
 // Whether the bytes are written; after a failure nothing is.
@@ -48,8 +47,8 @@ pub fn put<W: Write>(is_well: bool, output: &mut W, bytes: &[u8]) -> bool {
 pub fn put_number<W: Write>(is_well: bool, output: &mut W, number: u64) -> bool {
     let mut digits = [0u8; DIGITS];
     let count = put_decimal(&mut digits, 0, number);
-    let length = lesser(count, DIGITS);
-    put(is_well, output, &digits[0..length])
+    let length = count.min(DIGITS);
+    put(is_well, output, &digits[..length])
 }
 
 // A line where the input could not be read or the output not be written.

@@ -1,9 +1,8 @@
 // A line into the call that it asks for.
-ghost use Rattle.std.specs.Prelude.{◌≤◌};
+ghost use Rattle.std.specs.Prelude.{◌≤◌, ◌<◌, IfSome, length};
 
-use numbers::lesser;
 use readings::Readings;
-use text::{Figure, Series, after_word, bytes, is_last, next_word, number, numbers, signed_number};
+use text::{Figure, bytes, is_last, next_word, number, numbers, signed_number, word_end};
 
 const LONGEST_LINE: usize = 4000;
 
@@ -44,296 +43,175 @@ pub(crate) enum Call {
 // What a line, without its end, asks for. A comment and a line of spaces alone ask for nothing, however long.
 pub(crate) fn call_of(line: &[u8], request: &mut [u8], voltages: &mut [u16]) -> Call {
     let at = next_word(line, 0);
-    if line.len() <= at {
-        return Call::Nothing;
-    }
-    if line[0] == COMMENT {
+    if line.len() <= at || line[0] == COMMENT {
         return Call::Nothing;
     }
     if LONGEST_LINE < line.len() {
         return Call::Wrong;
     }
-    named_call(line, at, request, voltages)
+    named_call(line, at, request, voltages).unwrap_or(Call::Wrong)
 }
 
-fn named_call(line: &[u8], at: usize, request: &mut [u8], voltages: &mut [u16]) -> Call {
-    let tick = after_word(line, at, b"tick");
-    if 0 < tick {
-        return tick_call(line, tick, voltages);
+// The call that the first word names; none where there is no such call, or the words after the name are wrong.
+fn named_call(line: &[u8], at: usize, request: &mut [u8], voltages: &mut [u16]) -> Option<Call>
+    requires { at ≤ length line.now }
+{
+    let from = word_end(line, at);
+    match &line[at..from] {
+        b"tick" => tick_call(line, from, voltages),
+        b"frame" => frame_call(line, from, request),
+        b"offer" => offer_call(line, from, request),
+        b"fetch" => fetch_call(line, from),
+        b"start" => start_call(line, from),
+        b"handover" => handover_call(line, from),
+        b"save" => save_call(line, from),
+        b"load" => load_call(line, from, request),
+        b"cabinet" => cabinet_call(line, from),
+        b"store" => store_call(line, from, request),
+        b"keep" => lone_call(line, from, Call::Keep),
+        b"recall" => recall_call(line, from),
+        b"tidy" => lone_call(line, from, Call::Tidy),
+        b"crc" => crc_call(line, from, request),
+        b"register" => register_call(line, from),
+        _ => None,
     }
-    let frame = after_word(line, at, b"frame");
-    if 0 < frame {
-        return frame_call(line, frame, request);
-    }
-    let offer = after_word(line, at, b"offer");
-    if 0 < offer {
-        return offer_call(line, offer, request);
-    }
-    let fetch = after_word(line, at, b"fetch");
-    if 0 < fetch {
-        return fetch_call(line, fetch);
-    }
-    let start = after_word(line, at, b"start");
-    if 0 < start {
-        return start_call(line, start);
-    }
-    let handover = after_word(line, at, b"handover");
-    if 0 < handover {
-        return handover_call(line, handover);
-    }
-    rarer_call(line, at, request)
 }
 
-// The pack's memory, a partner's cabinet, and what comes more seldom.
-fn rarer_call(line: &[u8], at: usize, request: &mut [u8]) -> Call {
-    let save = after_word(line, at, b"save");
-    if 0 < save {
-        return save_call(line, save);
-    }
-    let load = after_word(line, at, b"load");
-    if 0 < load {
-        return load_call(line, load, request);
-    }
-    let cabinet = after_word(line, at, b"cabinet");
-    if 0 < cabinet {
-        return cabinet_call(line, cabinet);
-    }
-    let store = after_word(line, at, b"store");
-    if 0 < store {
-        return store_call(line, store, request);
-    }
-    rarest_call(line, at, request)
+fn start_call(line: &[u8], from: usize) -> Option<Call> {
+    let cells = number(line, from, 255)?;
+    let per_km = last_number(line, cells.next, 65535)?;
+    Some(Call::Start {
+        cells: cells.value as u8,
+        per_km: per_km as u16,
+    })
 }
 
-// Hire classes, and what is no call of the board.
-fn rarest_call(line: &[u8], at: usize, request: &mut [u8]) -> Call {
-    let keep = after_word(line, at, b"keep");
-    if 0 < keep {
-        return lone_call(line, keep, Call::Keep);
-    }
-    let recall = after_word(line, at, b"recall");
-    if 0 < recall {
-        return recall_call(line, recall);
-    }
-    let tidy = after_word(line, at, b"tidy");
-    if 0 < tidy {
-        return lone_call(line, tidy, Call::Tidy);
-    }
-    let crc = after_word(line, at, b"crc");
-    if 0 < crc {
-        return crc_call(line, crc, request);
-    }
-    let register = after_word(line, at, b"register");
-    if 0 < register {
-        return register_call(line, register);
-    }
-    Call::Wrong
-}
-
-fn start_call(line: &[u8], from: usize) -> Call {
-    let cells = number(line, from, 255);
-    let per_km = number(line, cells.next, 65535);
-    if per_km.good & is_last(line, per_km.next) {
-        return Call::Start {
-            cells: cells.value as u8,
-            per_km: per_km.value as u16,
-        };
-    }
-    Call::Wrong
-}
-
-fn tick_call(line: &[u8], from: usize, voltages: &mut [u16]) -> Call {
-    let current = signed_number(line, from, 2147483647);
-    let internal = signed_number(line, current.next, 32767);
-    let external1 = signed_number(line, internal.next, 32767);
-    let external2 = signed_number(line, external1.next, 32767);
-    let pulses = number(line, external2.next, 65535);
-    let charger = number(line, pulses.next, 1);
-    let ignition = number(line, charger.next, 1);
-    if !ignition.good {
-        return Call::Wrong;
-    }
-    let given = numbers(line, ignition.next, voltages);
-    let Series::Of(count) = given else {
-        return Call::Wrong;
+fn tick_call(line: &[u8], from: usize, voltages: &mut [u16]) -> Option<Call> {
+    let current = signed_number(line, from, 2147483647)?;
+    let internal = signed_number(line, current.next, 32767)?;
+    let external1 = signed_number(line, internal.next, 32767)?;
+    let external2 = signed_number(line, external1.next, 32767)?;
+    let pulses = number(line, external2.next, 65535)?;
+    let charger = number(line, pulses.next, 1)?;
+    let ignition = number(line, charger.next, 1)?;
+    let count = numbers(line, ignition.next, voltages)?;
+    let readings = Readings {
+        current: lowered_32(current.value),
+        internal: lowered_16(internal.value),
+        external1: lowered_16(external1.value),
+        external2: lowered_16(external2.value),
+        pulses: pulses.value as u16,
+        charger: charger.value == 1,
+        ignition: ignition.value == 1,
     };
-    Call::Tick {
-        readings: Readings {
-            current: lowered_32(current.value),
-            internal: lowered_16(internal.value),
-            external1: lowered_16(external1.value),
-            external2: lowered_16(external2.value),
-            pulses: pulses.value as u16,
-            charger: charger.value == 1,
-            ignition: ignition.value == 1,
-        },
-        count,
-    }
+    Some(Call::Tick { readings, count })
 }
 
-fn frame_call(line: &[u8], from: usize, request: &mut [u8]) -> Call {
-    let room = number(line, from, MOST_ROOM as u32);
-    if !room.good {
-        return Call::Wrong;
-    }
-    let given = request_bytes(line, room.next, request);
-    let Series::Of(count) = given else {
-        return Call::Wrong;
-    };
-    Call::Frame {
-        room: room.value as usize,
-        count,
-    }
+fn frame_call(line: &[u8], from: usize, request: &mut [u8]) -> Option<Call> {
+    let Figure { value, next } = number(line, from, MOST_ROOM as u32)?;
+    let count = request_bytes(line, next, request)?;
+    let room = value as usize;
+    Some(Call::Frame { room, count })
 }
 
-fn offer_call(line: &[u8], from: usize, request: &mut [u8]) -> Call {
-    let given = request_bytes(line, from, request);
-    match given {
-        Series::Of(count) => Call::Offer { count },
-        Series::Wrong => Call::Wrong,
-    }
+fn offer_call(line: &[u8], from: usize, request: &mut [u8]) -> Option<Call> {
+    let count = request_bytes(line, from, request)?;
+    Some(Call::Offer { count })
 }
 
-fn fetch_call(line: &[u8], from: usize) -> Call {
-    let room = only_number(line, from, MOST_ROOM as u32);
-    if room.good {
-        return Call::Fetch {
-            room: room.value as usize,
-        };
-    }
-    Call::Wrong
+fn fetch_call(line: &[u8], from: usize) -> Option<Call> {
+    let room = last_number(line, from, MOST_ROOM as u32)? as usize;
+    Some(Call::Fetch { room })
 }
 
-fn save_call(line: &[u8], from: usize) -> Call {
-    let length = only_number(line, from, MOST_ROOM as u32);
-    if length.good {
-        return Call::Save {
-            length: length.value as usize,
-        };
-    }
-    Call::Wrong
+fn save_call(line: &[u8], from: usize) -> Option<Call> {
+    let length = last_number(line, from, MOST_ROOM as u32)? as usize;
+    Some(Call::Save { length })
 }
 
-fn cabinet_call(line: &[u8], from: usize) -> Call {
-    let length = only_number(line, from, MOST_REGISTERS as u32);
-    if length.good {
-        return Call::Cabinet {
-            length: length.value as usize,
-        };
-    }
-    Call::Wrong
+fn cabinet_call(line: &[u8], from: usize) -> Option<Call> {
+    let length = last_number(line, from, MOST_REGISTERS as u32)? as usize;
+    Some(Call::Cabinet { length })
 }
 
-fn load_call(line: &[u8], from: usize, request: &mut [u8]) -> Call {
-    let given = request_bytes(line, from, request);
-    match given {
-        Series::Of(count) => Call::Load { count },
-        Series::Wrong => Call::Wrong,
-    }
+fn load_call(line: &[u8], from: usize, request: &mut [u8]) -> Option<Call> {
+    let count = request_bytes(line, from, request)?;
+    Some(Call::Load { count })
 }
 
 // Alone, or with the desk's pack number and the length of its record.
-fn handover_call(line: &[u8], from: usize) -> Call {
+fn handover_call(line: &[u8], from: usize) -> Option<Call> {
     if is_last(line, from) {
-        return Call::Handover;
+        return Some(Call::Handover);
     }
-    let pack = number(line, from, 4294967295);
-    let length = only_number(line, pack.next, MOST_ROOM as u32);
-    if length.good {
-        return Call::Record {
-            number: pack.value as u32,
-            length: length.value as usize,
-        };
-    }
-    Call::Wrong
+    let pack = number(line, from, 4294967295)?;
+    let length = last_number(line, pack.next, MOST_ROOM as u32)? as usize;
+    let number = pack.value as u32;
+    Some(Call::Record { number, length })
 }
 
-fn crc_call(line: &[u8], from: usize, request: &mut [u8]) -> Call {
-    let given = request_bytes(line, from, request);
-    let Series::Of(count) = given else {
-        return Call::Wrong;
-    };
-    let length = lesser(count, request.len());
-    Call::Crc(crc::crc(&request[0..length]))
+fn crc_call(line: &[u8], from: usize, request: &mut [u8]) -> Option<Call> {
+    let count = request_bytes(line, from, request)?;
+    let length = count.min(request.len());
+    Some(Call::Crc(crc::crc(&request[..length])))
 }
 
-fn register_call(line: &[u8], from: usize) -> Call {
-    let at = only_number(line, from, 65535);
-    if at.good {
-        return Call::Register(at.value as u16);
-    }
-    Call::Wrong
+fn register_call(line: &[u8], from: usize) -> Option<Call> {
+    let at = last_number(line, from, 65535)?;
+    Some(Call::Register(at as u16))
 }
 
 // A length, and no more bytes than it says.
-fn store_call(line: &[u8], from: usize, request: &mut [u8]) -> Call {
-    let length = number(line, from, MOST_ROOM as u32);
-    if !length.good {
-        return Call::Wrong;
-    }
-    let room = lesser(length.value as usize, request.len());
-    let given = bytes(line, length.next, &mut request[0..room]);
-    match given {
-        Series::Of(count) => Call::Store {
-            length: length.value as usize,
-            count,
-        },
-        Series::Wrong => Call::Wrong,
-    }
+fn store_call(line: &[u8], from: usize, request: &mut [u8]) -> Option<Call> {
+    let Figure { value, next } = number(line, from, MOST_ROOM as u32)?;
+    let length = value as usize;
+    let room = length.min(request.len());
+    let count = bytes(line, next, &mut request[..room])?;
+    Some(Call::Store { length, count })
 }
 
-fn recall_call(line: &[u8], from: usize) -> Call {
-    let edition = only_number(line, from, 4294967295);
-    if edition.good {
-        return Call::Recall {
-            edition: edition.value as u32,
-        };
-    }
-    Call::Wrong
+fn recall_call(line: &[u8], from: usize) -> Option<Call> {
+    let edition = last_number(line, from, 4294967295)? as u32;
+    Some(Call::Recall { edition })
 }
 
 // A word that stands alone.
-fn lone_call(line: &[u8], from: usize, call: Call) -> Call {
-    if is_last(line, from) {
-        return call;
-    }
-    Call::Wrong
+fn lone_call(line: &[u8], from: usize, call: Call) -> Option<Call> {
+    is_last(line, from).then_some(call)
 }
 
 // How long the console's store is after a call, where it was so long before it.
 pub(crate) fn store_length(call: Call, length: usize) -> usize {
     match call {
-        Call::Store { length, count: _ } => lesser(length, MOST_ROOM),
+        Call::Store { length, count: _ } => length.min(MOST_ROOM),
         _ => length,
     }
 }
 
 // Bytes of a request, an offer or an area.
-fn request_bytes(line: &[u8], from: usize, request: &mut [u8]) -> Series {
-    let room = lesser(MOST_BYTES, request.len());
-    bytes(line, from, &mut request[0..room])
+fn request_bytes(line: &[u8], from: usize, request: &mut [u8]) -> Option<usize> {
+    let room = MOST_BYTES.min(request.len());
+    bytes(line, from, &mut request[..room])
 }
 
 // The next word, which has to be the last, as a number from 0 to `most`.
-fn only_number(line: &[u8], from: usize, most: u32) -> Figure
-    ensures { result.value ≤ most }
+fn last_number(line: &[u8], from: usize, most: u32) -> Option<u64>
+    ensures { IfSome result (λ n. n ≤ most) }
 {
-    let mut figure = number(line, from, most);
-    figure.good = figure.good & is_last(line, figure.next);
-    figure
+    let Figure { value, next } = number(line, from, most)?;
+    is_last(line, next).then_some(value)
 }
 
 // The temperature that `signed_number` told as 32768 more.
-fn lowered_16(value: u64) -> i16 {
-    signed::from_bits(((value % 65536 + 32768) % 65536) as u16)
+fn lowered_16(value: u64) -> i16
+    requires { value < 65536 }
+{
+    (value as i32 + i16::MIN as i32) as i16
 }
 
 // The current that it told as 2147483648 more.
-fn lowered_32(value: u64) -> i32 {
-    let bits = value % 4294967296;
-    if bits < 2147483648 {
-        -1 - ((2147483647 - bits) as i32)
-    } else {
-        (bits - 2147483648) as i32
-    }
+fn lowered_32(value: u64) -> i32
+    requires { value < 4294967296 }
+{
+    (value as i64 + i32::MIN as i64) as i32
 }

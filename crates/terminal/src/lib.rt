@@ -5,12 +5,9 @@ mod calls;
 mod lines;
 mod turns;
 
-ghost use Rattle.std.specs.Prelude.{◌≤◌, length};
-
 use crate::calls::{Call, MOST_CELLS, MOST_ROOM, call_of, store_length};
 use crate::turns::answered;
 use board::Board;
-use numbers::lesser;
 use std::io::{IsTerminal, Read, Write};
 use streams::{Got, Waiting, read, tell, tell_failure, with_room, written};
 use text::{LF, appended, line_end, without_cr};
@@ -30,15 +27,19 @@ const LAST_END: [u8; 2] = *b"\r\n";
 // How long the console's store is before the first `store`: all zeros.
 const STORE: usize = 512;
 
-// The board after the lines of a block, how long the store is, and whether every answer is written.
-#[derive(Clone, Copy)]
-struct Answered {
+// What the console holds from one line to the next: the board, the store, which is so long, and so many bytes of a line that goes on.
+#[derive(Drop)]
+struct Bench {
     board: Board,
+    store: [u8; MOST_ROOM],
     length: usize,
-    is_written: bool,
+    line: [u8; LINE],
+    held: usize,
 }
 
 // Answers standard input on standard output until the input ends or cannot be read, or an answer cannot be written.
+// Before the first start there is a board that was started with 0 cells.
+// A proved loop has to end, and nothing says that the input does: no run uses up so many turns.
 pub fn serve<I: Read + IsTerminal, O: Write, M: Write>(
     name: &[u8],
     input: &mut I,
@@ -46,82 +47,29 @@ pub fn serve<I: Read + IsTerminal, O: Write, M: Write>(
     messages: &mut M,
 ) {
     let mut block = [0u8; BLOCK];
-    let mut line = [0u8; LINE];
     let mut out = [0u8; BLOCK];
+    let mut bench = Bench {
+        board: Board::start(0, 0).board,
+        store: [0; MOST_ROOM],
+        length: STORE,
+        line: [0; LINE],
+        held: 0,
+    };
     let prompts = input.is_terminal();
-    answer_all(
-        name, prompts, input, output, messages, &mut block, &mut line, &mut out,
-    );
-}
-
-// Before the first start there is a board that was started with 0 cells.
-// A proved loop has to end, and nothing says that the input does: no run uses up so many turns.
-fn answer_all<I: Read, O: Write, M: Write>(
-    name: &[u8],
-    prompts: bool,
-    input: &mut I,
-    output: &mut O,
-    messages: &mut M,
-    block: &mut [u8],
-    line: &mut [u8],
-    out: &mut [u8],
-) {
-    let first = Board::start(0, 0);
-    let mut board = first.board;
-    let mut store = [0u8; MOST_ROOM];
-    let mut length = STORE;
     let mut is_written = true;
-    let mut held = 0;
-    let mut turns = u64::MAX;
-    let mut got = block_read(true, prompts, input, messages, block);
-    while 0 < turns && 0 < got.count {
-        let part = lesser(got.count, block.len());
-        let next = block_answered(
-            board,
-            &mut store,
-            length,
-            &block[0..part],
-            line,
-            held,
-            output,
-            out,
-        );
-        board = next.board;
-        length = next.length;
-        is_written = next.is_written;
-        held = carried(line, held, &block[0..part]);
-        got = block_read(is_written, prompts, input, messages, block);
-        turns -= 1;
+    let mut got = block_read(true, prompts, input, messages, &mut block);
+    for _ in 0..u64::MAX {
+        if got.count == 0 {
+            break;
+        }
+        let part = &block[..got.count.min(BLOCK)];
+        is_written = bench.answer_block(part, output, &mut out);
+        bench.carry(part);
+        got = block_read(is_written, prompts, input, messages, &mut block);
     }
-    let is_ended = end_answered(
-        got.is_well,
-        board,
-        &mut store,
-        length,
-        line,
-        held,
-        output,
-        out,
-    );
+    // Of a line whose read failed no call is made.
+    let is_ended = !got.is_well || bench.answer_block(&LAST_END, output, &mut out);
     tell_failure(messages, name, got.is_well, is_written & is_ended);
-}
-
-// The last line, where it lacks its end: whether its answer is written. Of a line whose read failed no call is made.
-fn end_answered<O: Write>(
-    is_read: bool,
-    board: Board,
-    store: &mut [u8],
-    length: usize,
-    line: &mut [u8],
-    held: usize,
-    output: &mut O,
-    out: &mut [u8],
-) -> bool {
-    if is_read {
-        let last = block_answered(board, store, length, &LAST_END, line, held, output, out);
-        return last.is_written;
-    }
-    true
 }
 
 // One read, where there is to be one.
@@ -138,91 +86,61 @@ fn block_read<I: Read, M: Write>(
     read(goes_on, input, block)
 }
 
-// Every line that the block ends, until an answer cannot be written; of the first of them so many bytes are held.
-fn block_answered<O: Write>(
-    mut board: Board,
-    store: &mut [u8],
-    mut length: usize,
-    block: &[u8],
-    line: &mut [u8],
-    mut held: usize,
-    output: &mut O,
-    out: &mut [u8],
-) -> Answered {
-    let mut request = [0u8; MOST_ROOM];
-    let mut voltages = [0u16; MOST_CELLS];
-    let mut said = Waiting {
-        count: 0,
-        is_well: true,
-    };
-    let mut from = 0;
-    let mut end = line_end(block, from);
-    while end < block.len() && said.is_well {
-        let call = piece_call(&block[from..end], line, held, &mut request, &mut voltages);
-        from = end + 1;
-        end = line_end(block, from);
-        held = 0;
-        length = lesser(store_length(call, length), store.len());
-        let turn = answered(
-            board,
-            call,
-            &request,
-            &voltages,
-            &mut store[0..length],
-            out,
-            said.count,
-        );
-        board = turn.board;
-        said = with_room(output, out, turn.said, ANSWER_ROOM);
-    }
-    Answered {
-        board,
-        length,
-        is_written: written(output, out, said),
-    }
-}
-
-// What a block leaves of an unfinished line is carried over.
-fn carried(line: &mut [u8], held: usize, block: &[u8]) -> usize {
-    let from = last_line(block);
-    if from == 0 {
-        appended(line, held, block)
-    } else {
-        appended(line, 0, &block[from..])
-    }
-}
-
-// The place after the last LF; 0 where there is none.
-fn last_line(block: &[u8]) -> usize
-    ensures { result ≤ length block.now }
-{
-    let mut count = block.len();
-    while 0 < count {
-        if block[count - 1] == LF {
-            return count;
+impl Bench {
+    // Every line that the block ends, until an answer cannot be written: whether every answer is written.
+    fn answer_block<O: Write>(&mut self, block: &[u8], output: &mut O, out: &mut [u8]) -> bool {
+        let mut request = [0u8; MOST_ROOM];
+        let mut voltages = [0u16; MOST_CELLS];
+        let mut said = Waiting {
+            count: 0,
+            is_well: true,
+        };
+        // In a local until the block is done: of a field each line would be answered with a copy more.
+        let mut board = self.board;
+        let mut from = 0;
+        let mut end = line_end(block, from);
+        // By the place of the next LF.
+        while end < block.len() && said.is_well {
+            let call = self.ended_call(&block[from..end], &mut request, &mut voltages);
+            from = end + 1;
+            end = line_end(block, from);
+            self.length = store_length(call, self.length).min(MOST_ROOM);
+            let turn = answered(
+                board,
+                call,
+                &request,
+                &voltages,
+                &mut self.store[..self.length],
+                out,
+                said.count,
+            );
+            board = turn.board;
+            said = with_room(output, out, turn.said, ANSWER_ROOM);
         }
-        count -= 1;
+        self.board = board;
+        written(output, out, said)
     }
-    0
-}
 
-// The call of a line whose last piece this is. A line that stands whole in the block is not copied.
-fn piece_call(
-    piece: &[u8],
-    line: &mut [u8],
-    held: usize,
-    request: &mut [u8],
-    voltages: &mut [u16],
-) -> Call {
-    if held == 0 {
-        return whole_call(piece, request, voltages);
+    // The call of a line whose last piece this is. A line that stands whole in the block is not copied.
+    fn ended_call(&mut self, piece: &[u8], request: &mut [u8], voltages: &mut [u16]) -> Call {
+        if self.held == 0 {
+            return whole_call(piece, request, voltages);
+        }
+        let length = appended(&mut self.line, self.held, piece).min(LINE);
+        self.held = 0;
+        whole_call(&self.line[..length], request, voltages)
     }
-    let all = appended(line, held, piece);
-    let length = lesser(all, line.len());
-    whole_call(&line[0..length], request, voltages)
+
+    // What a block leaves of an unfinished line is carried over.
+    fn carry(&mut self, block: &[u8]) {
+        self.held = match block.iter().rposition(|byte| *byte == LF) {
+            Some(end) => appended(&mut self.line, 0, &block[end + 1..]),
+            None => appended(&mut self.line, self.held, block),
+        };
+    }
 }
 
 fn whole_call(line: &[u8], request: &mut [u8], voltages: &mut [u16]) -> Call {
     let length = without_cr(line);
-    call_of(&line[0..length], request, voltages)
+    call_of(&line[..length], request, voltages)
 }

@@ -1,6 +1,5 @@
 // Answers as text, put into the output buffer from a place on; each function gives the place after it. The room is seen
 // to before each answer.
-use answers::Shown;
 use text::{LF, SPACE, put, put_byte, put_bytes, put_decimal, put_word, without_zeros};
 
 // What stands after a call: its number, the register of a 44, the switches, and registers 51 and 52.
@@ -64,22 +63,20 @@ pub(crate) fn put_store(out: &mut [u8], at: usize, store: &[u8]) -> usize {
 
 // BYTE.. with a space behind each.
 fn put_row(out: &mut [u8], at: usize, bytes: &[u8]) -> usize {
-    if bytes.len() == 0 {
+    let [first, rest @ ..] = bytes else {
         return at;
-    }
-    let first = put_byte(out, at, bytes[0]);
-    let rest = put_bytes(out, first, &bytes[1..]);
-    put(out, rest, SPACE)
+    };
+    let mut next = put_byte(out, at, *first);
+    next = put_bytes(out, next, rest);
+    put(out, next, SPACE)
 }
 
 // Every register of the slice, with a space before each.
 pub(crate) fn put_slice(out: &mut [u8], at: usize, state: State, slice: &[u16]) -> usize {
     let mut next = put_state(out, at, state);
-    let mut i = 0;
-    while i < slice.len() {
+    for register in slice {
         next = put(out, next, SPACE);
-        next = put_word(out, next, slice[i]);
-        i += 1;
+        next = put_word(out, next, *register);
     }
     put_end(out, next)
 }
@@ -135,10 +132,10 @@ pub(crate) fn put_crc(out: &mut [u8], at: usize, crc: u16) -> usize {
 }
 
 // VALUE, or - where there is none.
-pub(crate) fn put_shown(out: &mut [u8], at: usize, shown: Shown) -> usize {
+pub(crate) fn put_shown(out: &mut [u8], at: usize, shown: Option<u16>) -> usize {
     match shown {
-        Shown::Register(value) => put_value(out, at, value),
-        Shown::Nothing => put_mark(out, at, b'-'),
+        Some(value) => put_value(out, at, value),
+        None => put_mark(out, at, b'-'),
     }
 }
 

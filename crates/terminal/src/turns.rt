@@ -6,8 +6,7 @@ use crate::lines::{
 };
 use board::{Answer, Board, Heard, Stored};
 use desk::RECORD;
-use numbers::lesser;
-use refusals::Outcome;
+use refusals::{Outcome, number_of, register_of};
 
 // What a reply buffer, an area, a slice or a record holds before a call, so that what the call leaves alone shows.
 const FILLING: u8 = 0x5A;
@@ -36,30 +35,30 @@ pub(crate) fn answered(
         Call::Wrong => after(board, put_mark(out, said, b'?')),
         Call::Start { cells, per_km } => told(Board::start(cells, per_km), out, said),
         Call::Tick { readings, count } => {
-            let given = lesser(count, voltages.len());
+            let given = count.min(voltages.len());
             told(board.tick(&voltages[0..given], readings), out, said)
         }
         Call::Frame { room, count } => {
-            let length = lesser(count, request.len());
+            let length = count.min(request.len());
             let mut reply = [FILLING; MOST_ROOM];
-            let lent = lesser(room, MOST_ROOM);
+            let lent = room.min(MOST_ROOM);
             framed(board, &request[0..length], &mut reply[0..lent], out, said)
         }
         Call::Offer { count } => {
-            let length = lesser(count, request.len());
+            let length = count.min(request.len());
             heard(board.offer(&request[0..length]), out, said)
         }
         Call::Fetch { room } => fetched(board, room, out, said),
         Call::Save { length } => saved(board, length, out, said),
         Call::Load { count } => {
-            let length = lesser(count, request.len());
+            let length = count.min(request.len());
             told(board.load(&request[0..length]), out, said)
         }
         Call::Cabinet { length } => measured(board, length, out, said),
         Call::Handover => handed(board, out, said),
         Call::Record { number, length } => billed(board, number, length, out, said),
         Call::Store { length: _, count } => {
-            let given = lesser(count, request.len());
+            let given = count.min(request.len());
             after(board, stocked(&request[0..given], store, out, said))
         }
         Call::Keep => stored(board.keep(store), store, out, said),
@@ -91,7 +90,7 @@ fn framed(board: Board, request: &[u8], reply: &mut [u8], out: &mut [u8], said: 
 
 fn fetched(board: Board, room: usize, out: &mut [u8], said: usize) -> Turn {
     let mut reply = [FILLING; MOST_ROOM];
-    let lent = lesser(room, MOST_ROOM);
+    let lent = room.min(MOST_ROOM);
     fetched_into(board, &mut reply[0..lent], out, said)
 }
 
@@ -104,7 +103,7 @@ fn fetched_into(board: Board, reply: &mut [u8], out: &mut [u8], said: usize) -> 
 
 fn saved(board: Board, length: usize, out: &mut [u8], said: usize) -> Turn {
     let mut area = [FILLING; MOST_ROOM];
-    let lent = lesser(length, MOST_ROOM);
+    let lent = length.min(MOST_ROOM);
     saved_into(board, &mut area[0..lent], out, said)
 }
 
@@ -117,7 +116,7 @@ fn saved_into(board: Board, area: &mut [u8], out: &mut [u8], said: usize) -> Tur
 
 fn measured(board: Board, length: usize, out: &mut [u8], said: usize) -> Turn {
     let mut slice = [SLICE_FILLING; MOST_REGISTERS];
-    let lent = lesser(length, MOST_REGISTERS);
+    let lent = length.min(MOST_REGISTERS);
     measured_into(board, &mut slice[0..lent], out, said)
 }
 
@@ -136,7 +135,7 @@ fn handed(board: Board, out: &mut [u8], said: usize) -> Turn {
 
 fn billed(board: Board, number: u32, length: usize, out: &mut [u8], said: usize) -> Turn {
     let mut bytes = [FILLING; MOST_ROOM];
-    let lent = lesser(length, MOST_ROOM);
+    let lent = length.min(MOST_ROOM);
     billed_into(board, number, &mut bytes[0..lent], out, said)
 }
 
@@ -154,11 +153,9 @@ fn stocked(bytes: &[u8], store: &mut [u8], out: &mut [u8], said: usize) -> usize
 
 // The console's store becomes these bytes, and zeros up to its end.
 fn stock(bytes: &[u8], store: &mut [u8]) {
-    let mut i = 0;
-    while i < store.len() {
-        store[i] = numbers::byte_at(bytes, i);
-        i += 1;
-    }
+    let count = bytes.len().min(store.len());
+    store[..count].copy_from_slice(&bytes[..count]);
+    store[count..].fill(0);
 }
 
 fn stored(stored: Stored, store: &[u8], out: &mut [u8], said: usize) -> Turn {
@@ -171,8 +168,8 @@ fn stored(stored: Stored, store: &[u8], out: &mut [u8], said: usize) -> Turn {
 }
 
 fn tidied(store: &mut [u8], out: &mut [u8], said: usize) -> usize {
-    let outcome = classes::tidy(store);
-    put_tidied(out, said, outcome.number(), store)
+    let number = number_of(classes::tidy(store));
+    put_tidied(out, said, number, store)
 }
 
 fn heard(heard: Heard, out: &mut [u8], said: usize) -> Turn {
@@ -189,8 +186,8 @@ fn shown(board: Board, at: u16, out: &mut [u8], said: usize) -> Turn {
 // What is shown after a call.
 fn state_of(board: Board, outcome: Outcome) -> State {
     State {
-        number: outcome.number(),
-        register: outcome.register(),
+        number: number_of(outcome),
+        register: register_of(outcome),
         charge: board.charge_switch(),
         discharge: board.discharge_switch(),
         need: board.decision_bits(),

@@ -1,20 +1,17 @@
 -- A loop that reads word after word and enters each value: it goes through the words of the line in order. Assumes nothing.
 use mathlib.Core.Path.{◌≡◌, refl, sym, ap, ◌∙◌}
-use mathlib.Core.Bool.{Bool, true, false, not, ◌&&◌, cond, and-false}
-use mathlib.Core.List.{List, [], ◌∷◌, ◌++◌, append-nil}
-use mathlib.Core.Option.{Option, none, some}
+use mathlib.Core.Bool.{Bool, true, false, not, ◌&&◌, cond}
+use mathlib.Core.List.{List, [], ◌∷◌, ◌++◌}
+use Rattle.std.specs.Prelude.{Option, None, Some}
 use Prim.Native.Nat.{ℕ, suc, ◌+◌, ◌<◌, ◌≤◌}
-use native.Mathlib.Nat.{add-zero}
 use native.Mathlib.Numerals.{add-one}
 use native.Mathlib.Omega.{arith}
-use borrow.Author.Tests.{eqb-true, ne_eqb, eq-eqb, le-leb, lt-leb}
-use lib.Dec.{eqb, leb}
-use lib.ListN.{length, drop, get_or, set, drop_of_length-le, length-append, length-drop}
-use lib.Seq.{drop-cons, drop-drop, get_or-drop, set_at, append_snoc, take_all, take_at}
+use borrow.Author.Tests.{eqb-true}
+use lib.ListN.{length, drop, get_or, set, length-append, length-drop}
+use lib.Seq.{drop-cons, drop-drop, get_or-drop, set_at, append_snoc}
 use Rattle.text.specs.Lines.{until}
-use Rattle.text.specs.Words.{is_space, is_no_space, word, words_behind, words_of, word_at, figure, read_at, and_more, values_of, Entered}
+use Rattle.text.specs.Words.{is_space, is_no_space, word, words_behind, words_of, word_at, figure, read_at, and_more, values_of}
 use Rattle.text.specs.declared.words.Figure.{Figure}
-use Rattle.text.specs.declared.words.Series.TheVariants.{Of, Wrong}
 use Rattle.text.proofs.Places.{passed}
 
 -- ---- the words of a text, one after the other
@@ -95,21 +92,19 @@ none_entered {read} {line} {from} {at} {before} e =
     }
 
 -- what a figure says of its word
-good_one : {f : Figure} (next end : ℕ) (o : Option ℕ) → f ≡ figure next end o → f.good ≡ true → (o ≡ some f.value) × (f.next ≡ next)
-good_one next end none e g = absurd (let z : ◌≡◌ {A = ℕ} 0 1 = cc (ap (λ (x : Figure). x.good) e) in omega arith)
-good_one next end (some n) e g = (ap (λ (x : Figure). some x.value) (sym e), ap (λ (x : Figure). x.next) e)
-
-bad_one : {f : Figure} (next end : ℕ) (o : Option ℕ) → f ≡ figure next end o → f.good ≡ false → o ≡ none
-bad_one next end none e g = refl
-bad_one next end (some n) e g = absurd (let z : ◌≡◌ {A = ℕ} 0 1 = cc (ap (λ (x : Figure). x.good) e) in omega arith)
+good_one : {f : Figure} (next : ℕ) (o : Option ℕ) → Some f ≡ figure next o → (o ≡ Some f.value) × (f.next ≡ next)
+good_one next None e = absurd (let z : ◌≡◌ {A = ℕ} 0 1 = cc in omega arith)
+good_one {f} next (Some n) e =
+    let k : f ≡ record { value = n; next = next } = cc in
+    (ap (λ (x : Figure). Some x.value) (sym k), ap (λ (x : Figure). x.next) k)
 
 module _ {read : List ℕ → Option ℕ} {line : List ℕ} {from : ℕ} {before : List ℕ} {at count : ℕ} {after : List ℕ}
     (g : Entering read line from before at count after) where
-  pub one_entered : {f : Figure} {next : ℕ} → f ≡ read_at read line at → f.good ≡ true → next ≡ word_at line f.next → at < length line
+  pub one_entered : {f : Figure} {next : ℕ} → Some f ≡ read_at read line at → next ≡ word_at line f.next → at < length line
       → count < length before
       → Entering read line from before next (count + 1) (set after count f.value)
-  one_entered {f} {next} e k n h l =
-      let o = good_one (at + length (word (drop at line))) (length line) (read (word (drop at line))) e k in
+  one_entered {f} {next} e n h l =
+      let o = good_one (at + length (word (drop at line))) (read (word (drop at line))) e in
       let w : words_of (drop at line) ≡ word (drop at line) ∷ words_of (drop next line)
       = one_word line at h (g.starts h) ∙ ap (λ (p : ℕ). word (drop at line) ∷ words_of (drop (word_at line p) line)) (sym o.1)
       ∙ ap (λ (p : ℕ). word (drop at line) ∷ words_of (drop p line)) (sym n) in
@@ -129,52 +124,4 @@ module _ {read : List ℕ → Option ℕ} {line : List ℕ} {from : ℕ} {before
             ∙ sym (append_snoc g.done f.value (values_of read (words_of (drop next line))));
         many = omega (arith, g.many, m);
         starts = rw n (starts_word line f.next);
-      }
-
-  -- a word that is wrong
-  pub wrong_word : {f : Figure} → f ≡ read_at read line at → f.good ≡ false → at < length line
-      → Entered read (words_of (drop from line)) before Wrong after
-  wrong_word {f} e k h =
-      let o = bad_one (at + length (word (drop at line))) (length line) (read (word (drop at line))) e k in
-      let w = one_word line at h (g.starts h) in
-      let v : values_of read (words_of (drop from line)) ≡ g.done
-      = g.values
-      ∙ ap (λ (x : List ℕ). g.done ++ x) (ap (values_of read) w
-      ∙ ap (λ (x : Option ℕ). and_more x (values_of read (words_of (drop (word_at line (at + length (word (drop at line)))) line)))) o)
-      ∙ append-nil g.done in
-      let m : length (words_of (drop at line)) ≡ suc (length (words_of (drop (word_at line (at + length (word (drop at line)))) line))) =
-      ap length w in
-      let t : eqb (length (values_of read (words_of (drop from line)))) (length (words_of (drop from line))) ≡ false
-      = ne_eqb (length (values_of read (words_of (drop from line)))) (length (words_of (drop from line)))
-      (λ (z : length (values_of read (words_of (drop from line))) ≡ length (words_of (drop from line))). let y = ap length v in
-      omega (arith, g.long, g.many, m)) in
-      record {
-        many = rw (t, and-false);
-        them = rw (v, take_all (length before) g.done (omega (arith, g.long, g.room)), g.long) g.them;
-      }
-
-  -- a word for which there is no place
-  pub no_place : at < length line → length before ≤ count → Entered read (words_of (drop from line)) before Wrong after
-  no_place h k =
-      let w = one_word line at h (g.starts h) in
-      let m : length (words_of (drop at line)) ≡ suc (length (words_of (drop (word_at line (at + length (word (drop at line)))) line))) =
-      ap length w in
-      let t : leb (length (words_of (drop from line))) (length before) ≡ false =
-      lt-leb (length (words_of (drop from line))) (length before) (omega (arith, g.many, m)) in
-      let c : length g.done ≡ length before = omega (arith, g.long, g.room) in
-      record {
-        many = rw t;
-        them = rw (g.values, take_at g.done (values_of read (words_of (drop at line))) (length before) c, g.long) g.them;
-      }
-
-  -- no word is left
-  pub all_entered : length line ≤ at → Entered read (words_of (drop from line)) before (Of count) after
-  all_entered h =
-      let n : drop at line ≡ [] = drop_of_length-le line h in
-      let v : values_of read (words_of (drop from line)) ≡ g.done = g.values ∙ ap (λ (x : List ℕ). g.done ++ values_of read (words_of x)) n
-      ∙ append-nil g.done in
-      let m : length (words_of (drop from line)) ≡ count = g.many ∙ ap (λ (x : List ℕ). count + length (words_of x)) n ∙ add-zero count in
-      record {
-        many = rw (v, g.long, m, le-leb count (length before) g.room, eq-eqb count count refl);
-        them = rw (v, take_all (length before) g.done (omega (arith, g.long, g.room)), g.long) g.them;
       }

@@ -2,7 +2,7 @@
 -- Assumes nothing.
 use mathlib.Core.Path.{◌≡◌, refl}
 use mathlib.Core.List.{[], ◌∷◌}
-use mathlib.Core.Option.{none, some}
+use Rattle.std.specs.Prelude.{None, Some}
 use Rattle.text.specs.Lines.{line_end, without_cr}
 use Rattle.text.specs.Words.{words_of, word_at}
 use Rattle.text.specs.Numbers.{number_of, signed_of, byte_of}
@@ -23,27 +23,27 @@ pub words : (words_of (32 ∷ 97 ∷ 98 ∷ 32 ∷ 32 ∷ 99 ∷ 32 ∷ []) ≡ 
 words = (refl, refl, refl)
 
 -- 007 is 7, 65535 fits and 65536 does not; nothing, -1 and 1a are no numbers
-pub numbers : (number_of 65535 (48 ∷ 48 ∷ 55 ∷ []) ≡ some 7)
-    × (number_of 65535 (54 ∷ 53 ∷ 53 ∷ 51 ∷ 53 ∷ []) ≡ some 65535)
-    × (number_of 65535 (54 ∷ 53 ∷ 53 ∷ 51 ∷ 54 ∷ []) ≡ none)
-    × (number_of 65535 [] ≡ none)
-    × (number_of 65535 (45 ∷ 49 ∷ []) ≡ none)
-    × (number_of 65535 (49 ∷ 97 ∷ []) ≡ none)
+pub numbers : (number_of 65535 (48 ∷ 48 ∷ 55 ∷ []) ≡ Some 7)
+    × (number_of 65535 (54 ∷ 53 ∷ 53 ∷ 51 ∷ 53 ∷ []) ≡ Some 65535)
+    × (number_of 65535 (54 ∷ 53 ∷ 53 ∷ 51 ∷ 54 ∷ []) ≡ None)
+    × (number_of 65535 [] ≡ None)
+    × (number_of 65535 (45 ∷ 49 ∷ []) ≡ None)
+    × (number_of 65535 (49 ∷ 97 ∷ []) ≡ None)
 numbers = (refl, refl, refl, refl, refl, refl)
 
 -- -0 is 0 and -32768 the lowest, each told as 32768 more; -32769, 32768 and - alone are none
-pub signed : (signed_of 32767 (45 ∷ 48 ∷ []) ≡ some 32768)
-    × (signed_of 32767 (45 ∷ 51 ∷ 50 ∷ 55 ∷ 54 ∷ 56 ∷ []) ≡ some 0)
-    × (signed_of 32767 (45 ∷ 51 ∷ 50 ∷ 55 ∷ 54 ∷ 57 ∷ []) ≡ none)
-    × (signed_of 32767 (51 ∷ 50 ∷ 55 ∷ 54 ∷ 56 ∷ []) ≡ none)
-    × (signed_of 32767 (45 ∷ []) ≡ none)
+pub signed : (signed_of 32767 (45 ∷ 48 ∷ []) ≡ Some 32768)
+    × (signed_of 32767 (45 ∷ 51 ∷ 50 ∷ 55 ∷ 54 ∷ 56 ∷ []) ≡ Some 0)
+    × (signed_of 32767 (45 ∷ 51 ∷ 50 ∷ 55 ∷ 54 ∷ 57 ∷ []) ≡ None)
+    × (signed_of 32767 (51 ∷ 50 ∷ 55 ∷ 54 ∷ 56 ∷ []) ≡ None)
+    × (signed_of 32767 (45 ∷ []) ≡ None)
 signed = (refl, refl, refl, refl, refl)
 
 -- aF is AF; A, G0 and 0AF are no bytes
-pub bytes : (byte_of (97 ∷ 70 ∷ []) ≡ some 0xAF)
-    × (byte_of (65 ∷ []) ≡ none)
-    × (byte_of (71 ∷ 48 ∷ []) ≡ none)
-    × (byte_of (48 ∷ 65 ∷ 70 ∷ []) ≡ none)
+pub bytes : (byte_of (97 ∷ 70 ∷ []) ≡ Some 0xAF)
+    × (byte_of (65 ∷ []) ≡ None)
+    × (byte_of (71 ∷ 48 ∷ []) ≡ None)
+    × (byte_of (48 ∷ 65 ∷ 70 ∷ []) ≡ None)
 bytes = (refl, refl, refl, refl)
 
 -- 0, 9, 10, 255, 999, 65536 and the greatest of 64 bits as text

@@ -1,15 +1,15 @@
 -- A loop that looks for the first byte that passes: what it looks for is the same from each place that it comes to.
 -- Assumes nothing.
-use mathlib.Core.Path.{◌≡◌, refl}
+use mathlib.Core.Path.{◌≡◌, refl, ap, ◌∙◌}
 use mathlib.Core.Bool.{Bool, true, false, cond, ◌||◌}
-use mathlib.Core.List.{List, [], ◌∷◌}
-use Prim.Native.Nat.{ℕ, suc, ◌+◌, ◌<◌, ◌≤◌}
+use mathlib.Core.List.{List, [], ◌∷◌, ◌++◌}
+use Prim.Native.Nat.{ℕ, zero, suc, ◌+◌, ◌<◌, ◌≤◌}
 use native.Mathlib.Nat.{not-suc-le-zero, le_of_suc-le-suc}
 use native.Mathlib.Numerals.{add-one}
 use native.Mathlib.Omega.{arith}
-use lib.ListN.{length, drop, get_or, drop_of_length-le}
-use lib.Seq.{drop-cons}
-use Rattle.text.specs.Lines.{until, without_cr}
+use lib.ListN.{length, take, drop, get_or, drop_of_length-le, length-drop}
+use lib.Seq.{drop-cons, drop-drop, length-take-le}
+use Rattle.text.specs.Lines.{until}
 
 pub record Ahead (passes : ℕ → Bool) (xs : List ℕ) (from at : ℕ) : Type 0 where
   pub same : at + until passes (drop at xs) ≡ from + until passes (drop from xs)
@@ -41,13 +41,20 @@ none_of true b e = (e, wrong e)
     wrong e = absurd (let z : ◌≡◌ {A = ℕ} 0 1 = cc in omega arith)
 none_of false b e = (refl, e)
 
-pub one_more : {passes : ℕ → Bool} {xs : List ℕ} {from : ℕ} (i : ℕ) {found : Bool} → (found ≡ false → Ahead passes xs from (from + i))
-    → from + i < length xs
-    → (found || passes (get_or xs (from + i) 0)) ≡ false → Ahead passes xs from (from + (i + 1))
-one_more {passes} {xs} {from} i {found} a h f =
-    let n = none_of found (passes (get_or xs (from + i) 0)) f in
-    let e : from + (i + 1) ≡ from + i + 1 = omega arith in
-    rw e (one_on (a n.0) h n.1)
+pub parts : (n : ℕ) (xs : List ℕ) → xs ≡ take n xs ++ drop n xs
+parts zero xs = refl
+parts (suc n) [] = refl
+parts (suc n) (x ∷ xs) = ap (λ (l : List ℕ). x ∷ l) (parts n xs)
+
+pub several_on : {passes : ℕ → Bool} {xs : List ℕ} {from at : ℕ} (n k : ℕ) → Ahead passes xs from at → at + n ≤ length xs → k ≡ n
+    → ((rest : List ℕ) → until passes (take k (drop at xs) ++ rest) ≡ length (take k (drop at xs)) + until passes rest)
+    → Ahead passes xs from (at + n)
+several_on {passes} {xs} {from} {at} n k a h q f =
+    let l : length (take k (drop at xs)) ≡ n = length-take-le k (drop at xs) (rw length-drop (omega arith)) ∙ q in
+    let e : until passes (drop at xs) ≡ length (take k (drop at xs)) + until passes (drop (at + k) xs)
+    = ap (until passes) (parts k (drop at xs)) ∙ f (drop k (drop at xs))
+    ∙ ap (λ (m : List ℕ). length (take k (drop at xs)) + until passes m) (drop-drop k at xs) in
+    rw (← q) (record { same = omega (arith, e, l, q, a.same) })
 
 -- the first that passes does pass
 pub passed : (passes : ℕ → Bool) (xs : List ℕ) → until passes xs < length xs → passes (get_or xs (until passes xs) 0) ≡ true
@@ -67,9 +74,3 @@ until_le passes (x ∷ xs) = go (passes x) (until_le passes xs)
     go : (t : Bool) → until passes xs ≤ length xs → cond t 0 (suc (until passes xs)) ≤ suc (length xs)
     go true i = omega arith
     go false i = omega arith
-
--- ---- a line's end
-
-pub no_line : (line : List ℕ) → length line ≡ 0 → 0 ≡ without_cr line
-no_line [] e = refl
-no_line (b ∷ bs) e = absurd (omega arith)

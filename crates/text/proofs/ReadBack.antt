@@ -2,10 +2,10 @@
 use mathlib.Core.Path.{◌≡◌, refl, ap, ◌∙◌}
 use mathlib.Core.Bool.{Bool, true, false, cond}
 use mathlib.Core.List.{List, [], ◌∷◌, ◌++◌}
-use mathlib.Core.Option.{some}
+use Rattle.std.specs.Prelude.{Some}
 use Prim.Native.Nat.{ℕ, ◌+◌, ◌-◌, ◌*◌, ◌/◌, ◌%◌, ◌<◌, ◌≤◌}
 use native.Mathlib.Omega.{arith}
-use borrow.Author.Tests.{ltb-true, ltb-false, lt-ltb, le-leb, lt-leb}
+use borrow.Author.Tests.{ltb-true, ltb-false, le-leb, lt-leb}
 use lib.Dec.{ltb}
 use lib.ListN.{length}
 use Rattle.laws.specs.Fold.{gather}
@@ -13,30 +13,32 @@ use Rattle.text.specs.Numbers.{is_digit, all_digits, is_number, decimal_of, hex_
 use Rattle.text.specs.Digits.{digit, decimal_text, hex_digit, hex_text}
 use Rattle.text.proofs.Decimal.{by_digits, one_digit, more_digits, some_digit}
 
-hex_back : (n : ℕ) → n < 16 → hex_of (hex_digit n) ≡ n
+hex_back : (n : ℕ) → n < 16 → hex_of (hex_digit n) ≡ Some n
 hex_back n h = go (ltb n 10) refl
   where
-    go : (t : Bool) → ltb n 10 ≡ t → hex_of (cond t (48 + n) (55 + n)) ≡ n
+    go : (t : Bool) → ltb n 10 ≡ t → hex_of (cond t (48 + n) (55 + n)) ≡ Some n
     go true e =
         let k = ltb-true n 10 e in
-        rw (le-leb 48 (48 + n) (omega arith), le-leb (48 + n) 57 (omega arith)) (omega arith)
+        let d : 48 + n - 48 ≡ n = omega arith in
+        rw (le-leb 48 (48 + n) (omega arith), le-leb (48 + n) 57 (omega arith)) (ap Some d)
     go false e =
         let k = ltb-false n 10 e in
+        let d : 55 + n - 65 + 10 ≡ n = omega arith in
         rw (
           le-leb 48 (55 + n) (omega arith),
           lt-leb (55 + n) 57 (omega arith),
           le-leb 65 (55 + n) (omega arith),
           le-leb (55 + n) 70 (omega arith),
         )
-        (omega arith)
+        (ap Some d)
 
 -- every byte
-pub byte_back : (b : ℕ) → b < 256 → byte_of (hex_text b) ≡ some b
+pub byte_back : (b : ℕ) → b < 256 → byte_of (hex_text b) ≡ Some b
 byte_back b h =
     let p : b / 16 < 16 = omega arith in
     let q : b % 16 < 16 = omega arith in
     let e : 16 * (b / 16) + b % 16 ≡ b = omega arith in
-    rw (hex_back (b / 16) p, hex_back (b % 16) q, lt-ltb (b / 16) 16 p, lt-ltb (b % 16) 16 q) (ap some e)
+    rw (hex_back (b / 16) p, hex_back (b % 16) q) (ap Some e)
 
 -- ---- decimal
 
@@ -67,6 +69,6 @@ is_number_lem [] h = absurd (omega arith)
 is_number_lem (x ∷ xs) h = refl
 
 -- every number
-pub number_back : (n most : ℕ) → n ≤ most → number_of most (decimal_text n) ≡ some n
+pub number_back : (n most : ℕ) → n ≤ most → number_of most (decimal_text n) ≡ Some n
 number_back n most h =
     rw (is_number_lem (decimal_text n) (some_digit n), all_digits_lem n, same_number n, le-leb n most h)

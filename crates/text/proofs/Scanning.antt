@@ -2,11 +2,10 @@
 -- there, and a count that stops growing is past every number that is asked for.
 -- Assumes nothing.
 use mathlib.Core.Path.{◌≡◌, refl, sym, ap, ◌∙◌}
-use mathlib.Core.Bool.{Bool, true, false, not, ◌&&◌, cond, and-eq-true_iff}
+use mathlib.Core.Bool.{Bool, true, false, not, ◌&&◌, cond, and-false, and-eq-true_iff}
 use mathlib.Core.List.{List, [], ◌∷◌, ◌++◌}
-use mathlib.Core.Option.{none, some}
+use Rattle.std.specs.Prelude.{Option, None, Some}
 use Prim.Native.Nat.{ℕ, suc, ◌+◌, ◌-◌, ◌*◌, ◌%◌, ◌<◌, ◌≤◌, min}
-use native.Mathlib.Nat.{sub_self}
 use native.Mathlib.Omega.{arith}
 use borrow.Author.Tests.{ltb-true, ltb-false, leb-true, leb-false, lt-ltb, le-ltb, le-leb, lt-leb, eqb-true}
 use lib.Dec.{leb, ltb}
@@ -14,11 +13,11 @@ use lib.ListN.{length, take, drop, get_or, length-drop}
 use lib.Seq.{take-suc, get_or-drop, drop-drop, length-take-le}
 use Rattle.laws.specs.Fold.{gather}
 use Rattle.text.specs.Lines.{until}
-use Rattle.text.specs.Words.{is_space, word, ends_word, figure, wrong_at, read_at}
+use Rattle.text.specs.Words.{is_space, word, ends_word, figure, read_at}
 use Rattle.text.specs.Numbers.{is_digit, all_digits, is_number, decimal_of, number_of}
 use Rattle.text.specs.Scan.{with_digit, taken_of}
 use Rattle.text.specs.declared.words.Figure.{Figure}
-use Rattle.text.proofs.Places.{Ahead, here, one_on, at_first, at_end, until_le}
+use Rattle.text.proofs.Places.{Ahead, one_on, at_first, at_end, until_le}
 
 abbrev pub is_no_digit : ℕ → Bool
 is_no_digit b = not (is_digit b)
@@ -34,7 +33,7 @@ digit_range b e =
 -- ---- the digits that a text starts with
 
 -- how many there are
-abbrev run : List ℕ → ℕ
+abbrev pub run : List ℕ → ℕ
 run text = until is_no_digit text
 
 record Run (text : List ℕ) : Type 0 where
@@ -79,9 +78,6 @@ pub record Scanned (line : List ℕ) (from at value : ℕ) : Type 0 where
   pub far : from ≤ at
   pub so_far : min value 1000000000000 ≡ min (decimal_of (take (at - from) (drop from line))) 1000000000000
 
-pub none_scanned : {line : List ℕ} {from : ℕ} → Scanned line from from 0
-none_scanned {line} {from} = record { ahead = here; far = omega arith; so_far = rw sub_self }
-
 grown : (value sum b : ℕ) → min value 1000000000000 ≡ min sum 1000000000000 → (48 ≤ b) × (b ≤ 57)
     → min (with_digit value b) 1000000000000 ≡ min (10 * sum + (b - 48)) 1000000000000
 grown value sum b e r = go (ltb value 1000000000000) refl
@@ -114,16 +110,26 @@ pub a_digit : {r : Bool} (b : ℕ) (t : Bool) → r ≡ is_digit b → r ≡ t �
 a_digit b t e f = sym e ∙ f
 
 module _ (line : List ℕ) (from end value most : ℕ) where
-  pub too_high : {r : Figure} → most < value → r ≡ wrong_at (length line) → r ≡ taken_of line from end value most
-  too_high h e = rw (lt-leb value most h) e
+  pub taken_in : {ends : Bool} → value ≤ most → from < end → ends ≡ ends_word (drop end line) → ends ≡ true
+      → figure end (Some value) ≡ taken_of line from end value most
+  taken_in h k e t = rw (le-leb value most h, lt-ltb from end k, ← e, t)
 
-  pub taken_in : {ends : Bool} → value ≤ most → ends ≡ ends_word (drop end line) → (ltb from end && ends) ≡ true
-      → figure end (length line) (some value) ≡ taken_of line from end value most
-  taken_in h e t = rw (le-leb value most h, ← e, t)
+  pub too_high : most < value → None ≡ taken_of line from end value most
+  too_high h = rw (lt-leb value most h)
 
-  pub not_taken : {ends : Bool} {r : Figure} → value ≤ most → ends ≡ ends_word (drop end line) → (ltb from end && ends) ≡ false → r
-      ≡ wrong_at (length line) → r ≡ taken_of line from end value most
-  not_taken h e t q = rw (le-leb value most h, ← e, t) q
+  pub no_digit : end ≤ from → None ≡ taken_of line from end value most
+  no_digit h = go (leb value most)
+    where
+      go : (t : Bool) → None ≡ cond t (cond (ltb from end && ends_word (drop end line)) (figure end (Some value)) None) None
+      go true = rw (le-ltb from end h)
+      go false = refl
+
+  pub no_end : {ends : Bool} → ends ≡ ends_word (drop end line) → ends ≡ false → None ≡ taken_of line from end value most
+  no_end e t = go (leb value most)
+    where
+      go : (t : Bool) → None ≡ cond t (cond (ltb from end && ends_word (drop end line)) (figure end (Some value)) None) None
+      go true = rw (← e, t, and-false)
+      go false = refl
 
 module _ (line : List ℕ) (from value most : ℕ) where
   abbrev text : List ℕ
@@ -151,9 +157,7 @@ module _ (line : List ℕ) (from value most : ℕ) where
       sum = decimal_of (take (run text) text)
 
       go : (g : Bool) → (ltb 0 (run text) && ends_word (drop (run text) text)) ≡ g → (t : Bool) → leb value most ≡ t
-          → cond t (cond g (figure (from + run text) (length line) (some value)) (figure (from + run text) (length line) none))
-          (figure (from + run text) (length line) none)
-          ≡ read_at (number_of most) line from
+          → cond t (cond g (figure (from + run text) (Some value)) None) None ≡ read_at (number_of most) line from
       go false f true k = rw (number ∙ f)
       go false f false k = rw (number ∙ f)
       go true f true k =
@@ -167,19 +171,16 @@ module _ (line : List ℕ) (from value most : ℕ) where
           let v : leb (decimal_of (take (run text) text)) most ≡ false = lt-leb (decimal_of (take (run text) text)) most (omega (arith, e)) in
           rw (number ∙ f, (runs text).whole ends, v)
 
-  stop : {at : ℕ} {r : Figure} → Scanned line from at value → at ≡ from + run text → r ≡ taken_of line from at value most → most ≤ 4294967296
+  pub stop : {at : ℕ} {r : Option Figure} → Scanned line from at value → at ≡ from + run text → r ≡ taken_of line from at value most → most ≤ 4294967296
       → r ≡ read_at (number_of most) line from
   stop {at} s p q h =
       let k : at - from ≡ run text = omega (arith, p) in
       q ∙ ap (λ (n : ℕ). taken_of line from n value most) p ∙ taken (omega arith) (rw k at s.so_far)
 
 -- a byte that is no digit, or the line's end
-pub stopped : {line : List ℕ} {from at value most : ℕ} {r : Figure} → Scanned line from at value → r ≡ taken_of line from at value most
-    → most ≤ 4294967296
-    → at < length line → is_digit (get_or line at 0) ≡ false → r ≡ read_at (number_of most) line from
-stopped {line} {from} {at} {value} {most} s q h l d = stop line from value most s (at_first s.ahead l (ap not d)) q h
+pub ran_up : {line : List ℕ} {from at value : ℕ} → Scanned line from at value → at < length line → is_digit (get_or line at 0) ≡ false
+    → at ≡ from + run (drop from line)
+ran_up s l d = at_first s.ahead l (ap not d)
 
-pub ended : {line : List ℕ} {from at value most : ℕ} {r : Figure} → Scanned line from at value → r ≡ taken_of line from at value most
-    → most ≤ 4294967296
-    → length line ≤ at → r ≡ read_at (number_of most) line from
-ended {line} {from} {at} {value} {most} s q h l = stop line from value most s (at_end s.ahead l) q h
+pub ran_out : {line : List ℕ} {from at value : ℕ} → Scanned line from at value → length line ≤ at → at ≡ from + run (drop from line)
+ran_out s l = at_end s.ahead l

@@ -2,15 +2,17 @@
 use mathlib.Core.Path.{◌≡◌, refl, sym, ap, ap₂, ◌∙◌}
 use mathlib.Core.Bool.{Bool, true, false, cond}
 use mathlib.Core.List.{List, [], ◌∷◌, ◌++◌, append_assoc, append-nil}
-use Prim.Native.Nat.{ℕ, zero, suc, ◌+◌, ◌-◌, ◌*◌, ◌/◌, ◌%◌, ◌<◌, ◌≤◌}
+use Prim.Native.Nat.{ℕ, zero, suc, ◌+◌, ◌*◌, ◌<◌, ◌≤◌}
 use native.Mathlib.Nat.{add-zero, mul-zero, mul-suc}
 use native.Mathlib.Numerals.{add-one}
 use native.Mathlib.Omega.{arith}
-use borrow.Author.Tests.{leb-true, leb-false, le-leb, lt-leb}
+use borrow.Author.Tests.{leb-true, le-leb}
 use lib.Dec.{leb}
 use lib.ListN.{length, take, get_or, set, length-append}
-use lib.Seq.{sets, length-sets, take-suc, take_all, length-take-le}
-use Rattle.text.specs.Digits.{hex_digit, hex_text, each_text, spaced_text, bytes_text, Wrote, Put}
+use lib.Seq.{sets, sets-eq, length-sets, take-suc, take_all, take-length, length-take-le}
+use borrow.Rule.Slice.PartMut.{put_mid}
+use Rattle.std.proofs.lemmas.Slice.{put_mid-paste}
+use Rattle.text.specs.Digits.{each_text, spaced_text, bytes_text, Wrote, Put}
 
 sets_append : (xs ys l : List ℕ) (at : ℕ) → sets (sets l at xs) (at + length xs) ys ≡ sets l at (xs ++ ys)
 sets_append [] ys l at = rw add-zero
@@ -70,39 +72,10 @@ put_nothing {l} {at} = record { place = place (leb (at + 0) (length l)); bytes =
     bytes true = refl
     bytes false = refl
 
-pub one_place : {l : List ℕ} {at b r : ℕ} → r ≡ b → Wrote l at (b ∷ []) (at + 1) (set l at r)
-one_place {l} {at} e = record { place = refl; bytes = ap (set l at) e }
-
 -- ---- room
-
-leb_same : (a b c d : ℕ) → (a ≤ b → c ≤ d) → (c ≤ d → a ≤ b) → leb a b ≡ leb c d
-leb_same a b c d f g = go (leb c d) refl
-  where
-    go : (t : Bool) → leb c d ≡ t → leb a b ≡ t
-    go true e = le-leb a b (g (leb-true c d e))
-    go false e = lt-leb a b (no (leb a b) refl)
-      where
-        no : (t : Bool) → leb a b ≡ t → b < a
-        no true k = let i = f (leb-true a b k) in let j = leb-false c d e in omega arith
-        no false k = leb-false a b k
-
-pub room : (length at count : ℕ) → at ≤ length → leb count (length - at) ≡ leb (at + count) length
-room length at count h = leb_same count (length - at) (at + count) length (λ k. omega arith) (λ k. omega arith)
-
-pub room_for_all : (length at count : ℕ) → at ≤ length → leb count ((length - at) / 3) ≡ leb (at + 3 * count) length
-room_for_all length at count h = leb_same count ((length - at) / 3) (at + 3 * count) length (λ k. omega arith) (λ k. omega arith)
-
-pub no_room : (length at count : ℕ) → length < at → false ≡ leb (at + count) length
-no_room length at count h = sym (lt-leb (at + count) length (omega arith))
 
 pub has : (a b : ℕ) {r : Bool} → r ≡ leb a b → r ≡ true → a ≤ b
 has a b e t = leb-true a b (sym e ∙ t)
-
--- ---- digits in a row
-
-pub two_digits : {l : List ℕ} {at x y : ℕ} (b : ℕ) → x ≡ hex_digit (b / 16) → y ≡ hex_digit (b % 16)
-    → Wrote l at (hex_text b) (at + 2) (set (set l at x) (at + 1) y)
-two_digits b p q = record { place = refl; bytes = rw (p, q, add-one) }
 
 -- ---- texts in a row
 
@@ -153,14 +126,7 @@ bytes_place bs i w h =
     let f = length-take-le i bs h in
     omega (arith, w.place)
 
--- ---- the bytes of a text in a row
+-- ---- the bytes of a text
 
-pub text_more : {l₀ l₁ : List ℕ} {at : ℕ} (text : List ℕ) (i : ℕ) → Wrote l₀ at (take i text) (at + i) l₁ → i < length text
-    → Wrote l₀ at (take (i + 1) text) (at + (i + 1)) (set l₁ (at + i) (get_or text i 0))
-text_more {at = at} text i w h =
-    let e : at + (i + 1) ≡ at + i + 1 = omega arith in
-    rw (e, add-one i, take-suc text i 0 h) (join w (one (get_or text i 0)))
-
-pub text_wrote : {l₀ l₁ : List ℕ} {at p : ℕ} (text : List ℕ) (i : ℕ) → Wrote l₀ at (take i text) p l₁ → length text ≤ i
-    → Wrote l₀ at text p l₁
-text_wrote text i w h = rw (take_all i text h) at w
+pub put_in : (l text part : List ℕ) (at k : ℕ) → part ≡ text → length text ≡ k → at + length text ≤ length l → put_mid at k l part ≡ sets l at text
+put_in l text part at k e f h = put_mid-paste at k l part text (length text) e f refl ∙ rw (take-length text) (sym (sets-eq text l at h))

@@ -1,14 +1,14 @@
--- A loop that leaves out zeros from the end, one by one or sixteen at a time. Assumes nothing.
+-- Zeros that are left out from the end, one by one or several at a time. Assumes nothing.
 use mathlib.Core.Path.{◌≡◌, refl, sym, ap, ◌∙◌}
 use mathlib.Core.Bool.{Bool, false, not, and-false, ◌||◌}
-use mathlib.Core.List.{List, [], ◌∷◌, ◌++◌}
-use Prim.Native.Nat.{ℕ, suc, ◌+◌, ◌-◌, ◌<◌, ◌≤◌}
+use mathlib.Core.List.{List, [], ◌∷◌, ◌++◌, append_assoc}
+use Prim.Native.Nat.{ℕ, suc, ◌+◌, ◌-◌, ◌<◌}
 use native.Mathlib.Numerals.{add-one}
 use native.Mathlib.Omega.{arith}
 use borrow.Author.Tests.{ne_eqb, eqb-true, not-false}
 use lib.Dec.{eqb}
 use lib.ListN.{length, take, get_or}
-use lib.Seq.{take-suc, length-take-le}
+use lib.Seq.{take-suc, take-length, length-take-le}
 use Rattle.text.specs.Digits.{used}
 use Rattle.text.proofs.Places.{none_of}
 
@@ -22,36 +22,28 @@ used_last (y ∷ xs) x e =
     let f : eqb (suc (length xs)) 0 ≡ false = ne_eqb (suc (length xs)) 0 (λ z. omega arith) in
     rw (used_last xs x e, f, and-false)
 
-pub one_zero : (xs : List ℕ) (n : ℕ) → n < length xs → get_or xs n 0 ≡ 0 → used (take (n + 1) xs) ≡ used (take n xs)
-one_zero xs n h e = rw (add-one, take-suc xs n 0 h, e, used_zero)
+-- the last byte of a text
+parted : (xs : List ℕ) → 0 < length xs → xs ≡ take (length xs - 1) xs ++ (get_or xs (length xs - 1) 0 ∷ [])
+parted xs h =
+    let n : length xs ≡ suc (length xs - 1) = omega arith in
+    sym (take-length xs) ∙ ap (λ (m : ℕ). take m xs) n ∙ take-suc xs (length xs - 1) 0 (omega arith)
 
-pub last_zero : (xs : List ℕ) (n : ℕ) → 0 < n → n ≤ length xs → get_or xs (n - 1) 0 ≡ 0 → used (take (n - 1) xs) ≡ used (take n xs)
-last_zero xs n h k e =
-    let f : n - 1 + 1 ≡ n = omega arith in
-    sym (one_zero xs (n - 1) (omega arith) e) ∙ ap (λ (m : ℕ). used (take m xs)) f
+pub last_zero : (xs : List ℕ) → 0 < length xs → get_or xs (length xs - 1) 0 ≡ 0 → used (take (length xs - 1) xs) ≡ used xs
+last_zero xs h e =
+    sym (used_zero (take (length xs - 1) xs)) ∙ ap (λ (x : ℕ). used (take (length xs - 1) xs ++ (x ∷ []))) (sym e) ∙ ap used (sym (parted xs h))
 
-pub last_used : (xs : List ℕ) (n : ℕ) → 0 < n → n ≤ length xs → (get_or xs (n - 1) 0 ≡ 0 → ⊥) → used (take n xs) ≡ n
-last_used xs n h k e =
-    let f : n ≡ suc (n - 1) = omega arith in
-    ap (λ (m : ℕ). used (take m xs)) f
-    ∙ ap used (take-suc xs (n - 1) 0 (omega arith))
-    ∙ used_last (take (n - 1) xs) (get_or xs (n - 1) 0) (ne_eqb (get_or xs (n - 1) 0) 0 e)
-    ∙ ap suc (length-take-le (n - 1) xs (omega arith))
-    ∙ sym f
+pub last_used : (xs : List ℕ) → 0 < length xs → (get_or xs (length xs - 1) 0 ≡ 0 → ⊥) → length xs ≡ used xs
+last_used xs h e =
+    let n : length (take (length xs - 1) xs) ≡ length xs - 1 = length-take-le (length xs - 1) xs (omega arith) in
+    let u = ap used (parted xs h) ∙ used_last (take (length xs - 1) xs) (get_or xs (length xs - 1) 0) (ne_eqb (get_or xs (length xs - 1) 0) 0 e) in
+    omega arith
 
--- ---- sixteen together
+-- ---- several looked at together
 
-pub one_more_zero : (xs : List ℕ) (at i : ℕ) {found : Bool} → (found ≡ false → used (take (at + i) xs) ≡ used (take at xs))
-    → at + i < length xs
-    → (found || not (eqb (get_or xs (at + i) 0) 0)) ≡ false → used (take (at + (i + 1)) xs) ≡ used (take at xs)
-one_more_zero xs at i {found} e h f =
-    let n = none_of found (not (eqb (get_or xs (at + i) 0) 0)) f in
-    let z = eqb-true (get_or xs (at + i) 0) 0 (not-false (eqb (get_or xs (at + i) 0) 0) n.1) in
-    let k : at + (i + 1) ≡ at + i + 1 = omega arith in
-    rw k (one_zero xs (at + i) h z ∙ e n.0)
-
-pub sixteen_zeros : (xs : List ℕ) (n : ℕ) → 16 ≤ n → used (take (n - 16 + 16) xs) ≡ used (take (n - 16) xs) → used (take n xs) ≡ used xs
-    → used (take (n - 16) xs) ≡ used xs
-sixteen_zeros xs n h e f =
-    let k : n - 16 + 16 ≡ n = omega arith in
-    sym (rw k at e) ∙ f
+pub one_more_zero : (xs : List ℕ) (i : ℕ) {found : Bool} → (found ≡ false → (front : List ℕ) → used (front ++ take i xs) ≡ used front)
+    → i < length xs
+    → (found || not (eqb (get_or xs i 0) 0)) ≡ false → (front : List ℕ) → used (front ++ take (i + 1) xs) ≡ used front
+one_more_zero xs i {found} e h f front =
+    let n = none_of found (not (eqb (get_or xs i 0) 0)) f in
+    let z = eqb-true (get_or xs i 0) 0 (not-false (eqb (get_or xs i 0) 0) n.1) in
+    rw (add-one, take-suc xs i 0 h, z, ← append_assoc front (take i xs) (0 ∷ [])) (used_zero (front ++ take i xs) ∙ e n.0 front)

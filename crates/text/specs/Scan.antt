@@ -1,7 +1,6 @@
 -- How a number is found in one pass over its digits: only a way of making, and no rule of the text.
 -- Assumes nothing.
-use Rattle.std.specs.Prelude.{Bool, false, ◌&&◌, cond, List, [], ◌∷◌, ℕ, ◌+◌, ◌*◌, ◌%◌, eqb, leb, ltb, length, drop}
-use Rattle.std.proofs.Math.Option.{none, some}
+use Rattle.std.specs.Prelude.{Bool, false, ◌&&◌, cond, List, [], ◌∷◌, ℕ, ◌+◌, ◌*◌, ◌%◌, eqb, leb, ltb, drop, Option, None, Some, option_map}
 use Rattle.text.specs.Words.{ends_word, figure}
 use Rattle.text.specs.declared.words.Figure.{Figure}
 
@@ -10,15 +9,14 @@ abbrev pub with_digit : ℕ → ℕ → ℕ
 with_digit n b = cond (ltb n 1000000000000) (10 * n + b % 16) n
 
 -- the number whose digits stand from one place to another, if a word ends there
-abbrev pub taken_of : List ℕ → ℕ → ℕ → ℕ → ℕ → Figure
+abbrev pub taken_of : List ℕ → ℕ → ℕ → ℕ → ℕ → Option Figure
 taken_of line from end value most =
-    cond (leb value most) (cond (ltb from end && ends_word (drop end line)) (figure end (length line) (some value))
-    (figure end (length line) none)) (figure end (length line) none)
+    cond (leb value most) (cond (ltb from end && ends_word (drop end line)) (figure end (Some value)) None) None
 
 abbrev pub starts_minus : List ℕ → Bool
 starts_minus [] = false
 starts_minus (b ∷ bs) = eqb b 45
 
--- another number in a figure, if it has one
-abbrev pub changed : (ℕ → ℕ) → Figure → Figure
-changed f n = cond n.good (record { value = f n.value; next = n.next; good = n.good }) n
+-- another number in a figure, if there is one
+abbrev pub changed : (ℕ → ℕ) → Option Figure → Option Figure
+changed f o = option_map (λ (n : Figure). record { value = f n.value; next = n.next }) o

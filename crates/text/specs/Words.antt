@@ -1,11 +1,9 @@
 -- Words, and what is read of them. A place in a line stands for what the line has from there on, `drop place line`.
 -- Assumes nothing.
-use Rattle.std.specs.Prelude.{Bool, true, false, not, ◌&&◌, cond, List, [], ◌∷◌, ◌++◌, ◌≡◌, ℕ, ◌+◌, eqb, leb, length, take, drop}
-use Rattle.std.proofs.Math.Option.{Option, none, some}
+use Rattle.std.specs.Prelude.{Bool, true, false, not, ◌&&◌, cond, List, [], ◌∷◌, ◌++◌, ◌≡◌, ℕ, ◌+◌, eqb, leb, length, take, drop, Option}
+use Rattle.std.specs.Prelude.{None, Some}
 use Rattle.text.specs.Lines.{until}
 use Rattle.text.specs.declared.words.Figure.{Figure}
-use Rattle.text.specs.declared.words.Series.{Series}
-use Rattle.text.specs.declared.words.Series.TheVariants.{Of, Wrong}
 
 -- words are parted by spaces (32), and by nothing else
 abbrev pub is_space : ℕ → Bool
@@ -42,48 +40,45 @@ stands [] text = ends_word text
 stands (w ∷ ws) [] = false
 stands (w ∷ ws) (b ∷ bs) = cond (eqb b w) (stands ws bs) false
 
--- the place after a word that stands at a place; 0 if it does not
-abbrev pub place_after : List ℕ → List ℕ → ℕ → ℕ
-place_after word line from = cond (stands word (drop from line)) (from + length word) 0
+-- the place after a word that stands at a place; none if it does not
+abbrev pub place_after : List ℕ → List ℕ → ℕ → Option ℕ
+place_after word line from = cond (stands word (drop from line)) (Some (from + length word)) None
 
 -- ---- a word read as a number
 
--- what is read, and the place after it. A word that is missing or wrong takes the rest of the line with it
-abbrev pub wrong_at : ℕ → Figure
-wrong_at end = record { value = 0; next = end; good = false }
-
-abbrev pub figure : ℕ → ℕ → Option ℕ → Figure
-figure next end none = wrong_at end
-figure next end (some value) = record { value = value; next = next; good = true }
+-- what is read, and the place after it; none where the word is missing or wrong
+abbrev pub figure : ℕ → Option ℕ → Option Figure
+figure next None = None
+figure next (Some value) = Some (record { value = value; next = next })
 
 -- the word at a place
-abbrev pub read_at : (List ℕ → Option ℕ) → List ℕ → ℕ → Figure
-read_at read line at = figure (at + length (word (drop at line))) (length line) (read (word (drop at line)))
+abbrev pub read_at : (List ℕ → Option ℕ) → List ℕ → ℕ → Option Figure
+read_at read line at = figure (at + length (word (drop at line))) (read (word (drop at line)))
 
 -- the next word at or after a place
-abbrev pub figure_of : (List ℕ → Option ℕ) → List ℕ → ℕ → Figure
+abbrev pub figure_of : (List ℕ → Option ℕ) → List ℕ → ℕ → Option Figure
 figure_of read line from = read_at read line (word_at line from)
 
 -- ---- every word that is left
 
 -- the values of words, up to the first that has none
 abbrev pub and_more : Option ℕ → List ℕ → List ℕ
-and_more none values = []
-and_more (some value) values = value ∷ values
+and_more None values = []
+and_more (Some value) values = value ∷ values
 
 abbrev pub values_of : (List ℕ → Option ℕ) → List (List ℕ) → List ℕ
 values_of read [] = []
 values_of read (w ∷ ws) = and_more (read w) (values_of read ws)
 
 -- how many words there are, if each has a value and a place
-abbrev pub series_of : (List ℕ → Option ℕ) → List (List ℕ) → ℕ → Series
-series_of read words room = cond (leb (length words) room && eqb (length (values_of read words)) (length words)) (Of (length words)) Wrong
+abbrev pub series_of : (List ℕ → Option ℕ) → List (List ℕ) → ℕ → Option ℕ
+series_of read words room = cond (leb (length words) room && eqb (length (values_of read words)) (length words)) (Some (length words)) None
 
 -- what stands in front of a list
 abbrev pub in_front : List ℕ → List ℕ → List ℕ
 in_front values list = values ++ drop (length values) list
 
 -- what a function gives, and that the values stand in front of what it was lent, as many as have a place
-pub record Entered (read : List ℕ → Option ℕ) (words : List (List ℕ)) (before : List ℕ) (series : Series) (after : List ℕ) : Type 0 where
+pub record Entered (read : List ℕ → Option ℕ) (words : List (List ℕ)) (before : List ℕ) (series : Option ℕ) (after : List ℕ) : Type 0 where
   pub many : series ≡ series_of read words (length before)
   pub them : after ≡ in_front (take (length before) (values_of read words)) before

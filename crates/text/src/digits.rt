@@ -1,6 +1,6 @@
 // Numbers into text, put into a buffer from a place on; each function gives the place after it. A text that has no room
-// there is not put at all, and the place stays.
-ghost use Rattle.std.specs.Prelude.{false, [], ◌∷◌, ◌≡◌, ◌+◌, ◌*◌, ◌≤◌, ◌<◌, leb, length, take};
+// there is not put at all, and the place stays. The caller lends the buffer: nothing here is on a heap.
+ghost use Rattle.std.specs.Prelude.{false, ℕ, List, [], ◌∷◌, ◌++◌, ◌≡◌, ◌+◌, ◌*◌, ◌≤◌, ◌<◌, leb, length};
 ghost use Rattle.text.specs.Digits.{digit, decimal_text, hex_digit, hex_text, word_text, spaced_text, bytes_text, used, Put, Wrote};
 
 use crate::words::SPACE;
@@ -97,10 +97,8 @@ fn write_bytes(out: &mut [u8], at: usize, bytes: &[u8]) -> usize
     ensures { Wrote out.old at (bytes_text bytes.now) result out.new }
 {
     let mut next = at;
-    let mut i = 0;
-    while i < bytes.len() {
-        next = write_spaced(out, next, bytes[i]);
-        i += 1;
+    for byte in bytes {
+        next = write_spaced(out, next, *byte);
     }
     next
 }
@@ -137,12 +135,9 @@ fn write_text(out: &mut [u8], at: usize, text: &[u8]) -> usize
     requires { at + length text.now ≤ length out.old }
     ensures { Wrote out.old at text.now result out.new }
 {
-    let mut i = 0;
-    while i < text.len() {
-        out[at + i] = text[i];
-        i += 1;
-    }
-    at + i
+    let next = at + text.len();
+    out[at..next].copy_from_slice(text);
+    next
 }
 
 // How many digits a number has; none of 64 bits has more than 20.
@@ -151,6 +146,7 @@ pub fn decimal_length(number: u64) -> usize
 {
     let mut count = 1;
     let mut left = number;
+    // By what is left of the number: how many digits there are is what is sought.
     while 10 <= left {
         left = left / 10;
         count += 1;
@@ -165,6 +161,7 @@ fn write_decimal(out: &mut [u8], at: usize, number: u64, count: usize) -> usize
 {
     let mut rest = number;
     let mut place = at + count - 1;
+    // By what is left of the number, as its text is defined: the last digit stands behind the text of a tenth of it.
     while 10 <= rest {
         out[place] = last_digit(rest);
         place -= 1;
@@ -184,40 +181,35 @@ fn last_digit(number: u64) -> u8
 pub fn without_zeros(bytes: &[u8]) -> usize
     ensures { (result ≡ used bytes.now) × (result ≤ length bytes.now) }
 {
-    let mut count = near_zeros(bytes);
-    while 0 < count {
-        if bytes[count - 1] != 0 {
-            return count;
-        }
-        count -= 1;
+    let mut rest = near_zeros(bytes);
+    while let [front @ .., 0] = rest {
+        rest = front;
     }
-    0
+    rest.len()
 }
 
 // Bytes behind which all are zero, found sixteen at a time: each such test is one of the machine's.
-fn near_zeros(bytes: &[u8]) -> usize
-    ensures { (used (take result bytes.now) ≡ used bytes.now) × (result ≤ length bytes.now) }
+fn near_zeros(bytes: &[u8]) -> &[u8]
+    ensures same { used result.now ≡ used bytes.now }
+    ensures short { length result.now ≤ length bytes.now }
 {
-    let mut count = bytes.len();
-    while 16 <= count {
-        if is_used(bytes, count - 16) {
-            return count;
+    let mut rest = bytes;
+    while let Some((front, last)) = rest.split_last_chunk::<16>() {
+        if is_used(last) {
+            return rest;
         }
-        count -= 16;
+        rest = front;
     }
-    count
+    rest
 }
 
-// Is one of sixteen bytes not zero?
-fn is_used(bytes: &[u8], at: usize) -> bool
-    requires { at + 16 ≤ length bytes.now }
-    ensures { result ≡ false → used (take (at + 16) bytes.now) ≡ used (take at bytes.now) }
+// Is one of the bytes not zero? Each is looked at, so that the machine tests all at once.
+fn is_used(bytes: &[u8; 16]) -> bool
+    ensures { result ≡ false → (front : List ℕ) → used (front ++ bytes.now) ≡ used front }
 {
     let mut found = false;
-    let mut i = 0;
-    while i < 16 {
-        found = found | (bytes[at + i] != 0);
-        i += 1;
+    for byte in bytes {
+        found |= *byte != 0;
     }
     found
 }

@@ -1,6 +1,6 @@
 // Bytes into lines. A line that a block leaves unfinished is carried over in a buffer of its own.
-ghost use Rattle.std.specs.Prelude.{false, ◌≡◌, ◌+◌, ◌≤◌, length};
-ghost use Rattle.text.specs.Lines.{line_end, without_cr, held_of, held_byte, held_all, no_space, Holds};
+ghost use Rattle.std.specs.Prelude.{false, ℕ, List, ◌++◌, ◌≡◌, ◌+◌, ◌≤◌, length};
+ghost use Rattle.text.specs.Lines.{until, is_end, line_end, without_cr, held_of, held_byte, held_all, no_space, Holds};
 
 use crate::digits::has_room;
 use crate::words::SPACE;
@@ -9,18 +9,18 @@ pub const LF: u8 = b'\n';
 
 const CR: u8 = b'\r';
 
-// The place of the first LF at or after a place; the block's length where there is none.
+// The place of the first LF at or after a place; the block's length where there is none: a place and no `Option`, since
+// the line ends there too.
 pub fn line_end(block: &[u8], from: usize) -> usize
     ensures { result ≡ line_end block.now from }
 {
-    let mut at = far_end(block, from);
-    while at < block.len() {
+    let near = far_end(block, from);
+    for at in near..block.len() {
         if block[at] == LF {
             return at;
         }
-        at += 1;
     }
-    at
+    near.max(block.len())
 }
 
 // A place with no LF between, found sixteen bytes at a time: each such test is one of the machine's.
@@ -29,7 +29,7 @@ fn far_end(block: &[u8], from: usize) -> usize
 {
     let mut at = from;
     while has_room(block.len(), at, 16) {
-        if has_end(block, at) {
+        if has_end(&block[at..at + 16]) {
             return at;
         }
         at += 16;
@@ -37,16 +37,13 @@ fn far_end(block: &[u8], from: usize) -> usize
     at
 }
 
-// Is one of sixteen bytes an LF?
-fn has_end(block: &[u8], at: usize) -> bool
-    requires { at + 16 ≤ length block.now }
-    ensures { result ≡ false → line_end block.now (at + 16) ≡ line_end block.now at }
+// Is one of the bytes an LF? Each is looked at, so that the machine tests sixteen at once.
+fn has_end(bytes: &[u8]) -> bool
+    ensures { result ≡ false → (rest : List ℕ) → until is_end (bytes.now ++ rest) ≡ length bytes.now + until is_end rest }
 {
     let mut found = false;
-    let mut i = 0;
-    while i < 16 {
-        found = found | (block[at + i] == LF);
-        i += 1;
+    for byte in bytes {
+        found |= *byte == LF;
     }
     found
 }
@@ -55,14 +52,9 @@ fn has_end(block: &[u8], at: usize) -> bool
 pub fn without_cr(line: &[u8]) -> usize
     ensures { (result ≡ without_cr line.now) × (result ≤ length line.now) }
 {
-    let length = line.len();
-    if length == 0 {
-        return 0;
-    }
-    if line[length - 1] == CR {
-        length - 1
-    } else {
-        length
+    match line {
+        [front @ .., CR] => front.len(),
+        _ => line.len(),
     }
 }
 
@@ -71,10 +63,8 @@ pub fn appended(line: &mut [u8], held: usize, piece: &[u8]) -> usize
     ensures { Holds (held_all (held_of held line.old) piece.now) result line.new }
 {
     let mut count = held;
-    let mut i = 0;
-    while i < piece.len() {
-        count = held_byte(line, count, piece[i]);
-        i += 1;
+    for byte in piece {
+        count = held_byte(line, count, *byte);
     }
     count
 }

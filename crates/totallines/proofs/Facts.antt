@@ -3,8 +3,7 @@
 use mathlib.Core.Path.{◌≡◌, refl}
 use mathlib.Core.List.{[], ◌∷◌}
 use Rattle.refusals.specs.declared.Refusal.TheVariants.{CutBill, PastTotal}
-use Rattle.refusals.specs.declared.Outcome.{Outcome}
-use Rattle.refusals.specs.declared.Outcome.TheVariants.{Done, Refused}
+use Rattle.refusals.specs.Refusals.{Outcome, Done, Refused}
 use Rattle.text.specs.Digits.{digits_within, decimal_text}
 use Rattle.totals.specs.declared.Billed.{Billed}
 use Rattle.totallines.specs.TotalLines.{lines_of}

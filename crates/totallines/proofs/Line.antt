@@ -4,9 +4,8 @@ use mathlib.Core.List.{List, [], ◌∷◌}
 use Prim.Native.Nat.{ℕ, suc, ◌+◌, ◌*◌, ◌^◌, ◌<◌, ◌≤◌}
 use native.Mathlib.Omega.{arith}
 use lib.ListN.{length, take, get_or, length-append}
-use Rattle.refusals.specs.declared.Outcome.{Outcome}
-use Rattle.refusals.specs.declared.Outcome.TheVariants.{Done, Refused}
-use Rattle.refusals.specs.Refusals.{number_of}
+use Rattle.refusals.specs.Refusals.{Outcome, Done, Refused, number_of}
+use Rattle.std.specs.Prelude.{Ok, Err}
 use Rattle.text.specs.Digits.{decimal_text, each_text, Put, Wrote}
 use Rattle.text.proofs.Decimal.{twenty}
 use Rattle.text.proofs.Writing.{put_wrote, join_put}
@@ -22,8 +21,8 @@ line_wrote n digits end h = let long = line_long n in join_put (put_wrote digits
 -- the values that are told are the first of six: five, or with a refusal's number all
 told : (o : Outcome) (a b c d e : ℕ) {count number : ℕ} → count ≡ 5 + length (refusal_in o) → number ≡ number_of o
     → take count (a ∷ b ∷ c ∷ d ∷ e ∷ number ∷ []) ≡ a ∷ b ∷ c ∷ d ∷ e ∷ refusal_in o
-told Done a b c d e {number = number} p q = ap (λ (n : ℕ). take n (a ∷ b ∷ c ∷ d ∷ e ∷ number ∷ [])) p
-told (Refused refusal) a b c d e p q = ap₂ (λ (n number : ℕ). take n (a ∷ b ∷ c ∷ d ∷ e ∷ number ∷ [])) p q
+told (Ok done) a b c d e {number = number} p q = ap (λ (n : ℕ). take n (a ∷ b ∷ c ∷ d ∷ e ∷ number ∷ [])) p
+told (Err refusal) a b c d e p q = ap₂ (λ (n number : ℕ). take n (a ∷ b ∷ c ∷ d ∷ e ∷ number ∷ [])) p q
 
 pub told_put : {l l' : List ℕ} {at next count number : ℕ} (o : Outcome) (a b c d e : ℕ) → count ≡ 5 + length (refusal_in o)
     → number ≡ number_of o → Put l at (each_text line_of (take count (a ∷ b ∷ c ∷ d ∷ e ∷ number ∷ []))) next l'

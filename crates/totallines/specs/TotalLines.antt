@@ -1,9 +1,7 @@
 -- The lines that tell a bill (W-214 of document 02).
 -- Assumes nothing.
-use Rattle.std.specs.Prelude.{List, [], ◌∷◌, ◌++◌, ℕ}
-use Rattle.refusals.specs.declared.Outcome.{Outcome}
-use Rattle.refusals.specs.declared.Outcome.TheVariants.{Done, Refused}
-use Rattle.refusals.specs.Refusals.{refusal_number}
+use Rattle.std.specs.Prelude.{List, [], ◌∷◌, ◌++◌, ℕ, Ok, Err}
+use Rattle.refusals.specs.Refusals.{Outcome, Done, Refused, refusal_number}
 use Rattle.text.specs.Digits.{decimal_text, each_text}
 use Rattle.totals.specs.declared.Billed.{Billed}
 
@@ -13,8 +11,8 @@ line_of n = decimal_text n ++ (10 ∷ [])
 
 -- after a refusal its number
 abbrev pub refusal_in : Outcome → List ℕ
-refusal_in Done = []
-refusal_in (Refused refusal) = refusal_number refusal ∷ []
+refusal_in (Ok done) = []
+refusal_in (Err refusal) = refusal_number refusal ∷ []
 
 -- the count and the exact totals of seconds, positive sum, negative sum and distance; then the number
 abbrev pub values_of : Billed → List ℕ

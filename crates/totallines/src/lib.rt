@@ -6,7 +6,7 @@ ghost use Rattle.std.specs.Prelude.{◌≡◌, ◌+◌, ◌≤◌, length};
 ghost use Rattle.text.specs.Digits.{each_text, Put, Wrote};
 ghost use Rattle.totallines.specs.TotalLines.{line_of, refusal_in, lines_of};
 
-use refusals::Outcome;
+use refusals::{Outcome, number_of};
 use text::{LF, decimal_length, has_room, put, put_decimal};
 use totals::Billed;
 
@@ -25,7 +25,7 @@ pub fn put_lines(out: &mut [u8], at: usize, billed: Billed) -> usize
         totals.positive,
         totals.negative,
         totals.distance,
-        outcome.number() as u64,
+        number_of(outcome) as u64,
     ];
     let count = told_count(outcome);
     put_values(out, at, &values[..count])
@@ -36,8 +36,8 @@ fn told_count(outcome: Outcome) -> usize
     ensures { (result ≡ 5 + length (refusal_in outcome)) × (result ≤ 6) }
 {
     match outcome {
-        Outcome::Done => 5,
-        Outcome::Refused(_) => 6,
+        Ok(()) => 5,
+        Err(_) => 6,
     }
 }
 
@@ -56,10 +56,8 @@ fn lines_length(values: &[u64]) -> usize
     ensures { result ≡ length (each_text line_of values.now) }
 {
     let mut all = 0;
-    let mut i = 0;
-    while i < values.len() {
-        all += line_length(values[i]);
-        i += 1;
+    for value in values {
+        all += line_length(*value);
     }
     all
 }
@@ -75,10 +73,8 @@ fn write_lines(out: &mut [u8], at: usize, values: &[u64]) -> usize
     ensures { Wrote out.old at (each_text line_of values.now) result out.new }
 {
     let mut next = at;
-    let mut i = 0;
-    while i < values.len() {
-        next = write_line(out, next, values[i]);
-        i += 1;
+    for value in values {
+        next = write_line(out, next, *value);
     }
     next
 }

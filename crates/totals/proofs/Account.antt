@@ -10,13 +10,11 @@ use borrow.Author.Tests.{lt-ltb}
 use lib.Dec.{ltb}
 use lib.ListN.{length, take}
 use Rattle.refusals.specs.declared.Refusal.TheVariants.{PastTotal}
-use Rattle.refusals.specs.declared.Outcome.{Outcome}
-use Rattle.refusals.specs.declared.Outcome.TheVariants.{Done, Refused}
-use Rattle.refusals.specs.Refusals.{is_done, first}
+use Rattle.refusals.specs.Refusals.{Outcome, Done, Refused, giving, first}
 use Rattle.desk.specs.declared.Record.{Record}
 use Rattle.totals.specs.declared.Totals.{Totals}
 use Rattle.totals.specs.declared.Billed.{Billed}
-use Rattle.totals.specs.Totals.{with_record, is_past, taken_of, records_of, cut_rows, in_order, billed_of}
+use Rattle.totals.specs.Totals.{with_record, is_past, taken_of, goes_on, records_of, cut_rows, in_order, billed_of}
 use Rattle.totals.proofs.Records.{same_test}
 use Rattle.totals.specs.Account.{sums_of, before, fitting, account_of}
 
@@ -53,8 +51,7 @@ in_order_lem (r ∷ rs) t end = go (is_past (with_record t r)) (in_order_lem rs 
         (suc (before (λ (k : ℕ). is_past (first_sum t r (take (suc k) rs) i)) (length rs))))
 
     go : (past : Bool) → in_order (with_record t r) rs end ≡ comes (with_record t r) rs end later
-        → cond (is_done (cond past (Refused PastTotal) Done)) (in_order (cond past t (with_record t r)) rs end)
-        (record { outcome = cond past (Refused PastTotal) Done; totals = cond past t (with_record t r) })
+        → goes_on t (giving (cond past (Refused PastTotal) Done) (with_record t r)) (λ (more : Totals). in_order more rs end)
         ≡ comes t (r ∷ rs) end (cond past 0 (suc later))
     go true i = sym (λ j. record {
       outcome = cond (lt-ltb 0 (suc (length rs)) (omega arith) j) (Refused PastTotal) end;

@@ -2,15 +2,15 @@
 -- on from the totals of the one before it, until one is refused. Why: whole records at the front are taken first, one by one.
 -- Assumes nothing.
 use mathlib.Core.Path.{◌≡◌, refl, sym, ap, ◌∙◌}
-use mathlib.Core.Bool.{Bool, true, false}
+use mathlib.Core.Bool.{false}
 use mathlib.Core.List.{List, [], ◌∷◌, ◌++◌, flatten, append-nil}
 use Prim.Native.Nat.{ℕ, zero, suc, ◌*◌, ◌/◌, ◌%◌, ◌≤◌}
 use native.Mathlib.Omega.{arith}
 use lib.ListN.{length, drop, length-append, length-drop}
 use lib.Seq.{take-append-le, drop-append-le}
-use Rattle.refusals.specs.declared.Outcome.{Outcome}
-use Rattle.refusals.specs.declared.Outcome.TheVariants.{Done, Refused}
-use Rattle.refusals.specs.Refusals.{is_done, first}
+use Rattle.refusals.specs.Refusals.{Outcome, Refused, is_done, first}
+use Rattle.refusals.specs.declared.Refusal.{Refusal}
+use Rattle.std.specs.Prelude.{Result, Ok, Err}
 use Rattle.desk.specs.Desk.{record_length, record_of}
 use Rattle.totals.specs.declared.Totals.{Totals}
 use Rattle.totals.specs.declared.Billed.{Billed}
@@ -49,8 +49,7 @@ records_then zero t s rest h =
     let e = empty s (omega arith) in
     ap (λ (x : List ℕ). billed_of t (x ++ rest)) e
     ∙ ap (λ (b : Billed). followed_by b rest) (sym (ap (billed_of t) e ∙ no_bytes_lem t))
-records_then (suc n) t s rest h =
-    go (is_done (first_taken t s).outcome) refl (records_then n (first_taken t s).totals (drop record_length s) rest)
+records_then (suc n) t s rest h = go (first_taken t s) refl (λ more. records_then n more (drop record_length s) rest)
   where
     long : record_length ≤ length s
     long = omega arith
@@ -61,21 +60,17 @@ records_then (suc n) t s rest h =
     same_first : first_taken t (s ++ rest) ≡ first_taken t s
     same_first = ap (λ (x : List ℕ). taken_of t (record_of x)) (take-append-le record_length s rest long)
 
-    go : (b : Bool) → is_done (first_taken t s).outcome ≡ b
-        → (length (drop record_length s) ≡ record_length * n
-        → billed_of (first_taken t s).totals (drop record_length s ++ rest)
-        ≡ followed_by (billed_of (first_taken t s).totals (drop record_length s)) rest)
+    go : (b : Result Totals Refusal) → first_taken t s ≡ b
+        → ((more : Totals) → length (drop record_length s) ≡ record_length * n
+        → billed_of more (drop record_length s ++ rest) ≡ followed_by (billed_of more (drop record_length s)) rest)
         → billed_of t (s ++ rest) ≡ followed_by (billed_of t s) rest
-    go true e i =
-        billed_taken t (s ++ rest) longer (ap (λ (b : Billed). is_done b.outcome) same_first ∙ e)
-        ∙ ap (λ (b : Billed). billed_of b.totals (drop record_length (s ++ rest))) same_first
-        ∙ ap (billed_of (first_taken t s).totals) (drop-append-le record_length s rest long)
-        ∙ i (simp length-drop (omega arith))
+    go (Ok more) e i =
+        billed_taken t (s ++ rest) longer (same_first ∙ e)
+        ∙ ap (billed_of more) (drop-append-le record_length s rest long)
+        ∙ i more (simp length-drop (omega arith))
         ∙ ap (λ (b : Billed). followed_by b rest) (sym (billed_taken t s long e))
-    go false e i =
-        billed_refused t (s ++ rest) longer (ap (λ (b : Billed). is_done b.outcome) same_first ∙ e)
-        ∙ same_first
-        ∙ sym (stays (first_taken t s) rest e)
+    go (Err refusal) e i =
+        billed_refused t (s ++ rest) longer (same_first ∙ e)
         ∙ ap (λ (b : Billed). followed_by b rest) (sym (billed_refused t s long e))
 
 pub two_pieces : (t : Totals) (s rest : List ℕ) → length s % record_length ≡ 0 → billed_of t (s ++ rest) ≡ followed_by (billed_of t s) rest
@@ -101,5 +96,5 @@ in_blocks_lem (whole {block} {more} h rest) t =
       where
         by : (o : Outcome) (u : Totals)
             → in_blocks (record { outcome = o; totals = u }) more ≡ followed_by (record { outcome = o; totals = u }) (flatten more)
-        by Done u = i u
-        by (Refused refusal) u = ended (record { outcome = Refused refusal; totals = u }) more refl
+        by (Ok done) u = i u
+        by (Err refusal) u = ended (record { outcome = Refused refusal; totals = u }) more refl

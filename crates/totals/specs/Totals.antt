@@ -1,12 +1,10 @@
 -- What records come to (W-214 of document 02): the count and the exact totals of seconds, positive sum, negative sum and distance, record
 -- by record. Account.antt says the same by sums over all of them.
 -- Assumes nothing.
-use Rattle.std.specs.Prelude.{Bool, ◌||◌, not, cond, List, [], ◌∷◌, ℕ, zero, suc, ◌+◌, ◌/◌, ◌%◌, ◌≤◌, eqb, ltb, length, take, drop}
+use Rattle.std.specs.Prelude.{Bool, ◌||◌, not, cond, List, [], ◌∷◌, ℕ, zero, suc, ◌+◌, ◌/◌, ◌%◌, Result, Ok, Err, eqb, ltb, length, take, drop}
 use Rattle.refusals.specs.declared.Refusal.{Refusal}
 use Rattle.refusals.specs.declared.Refusal.TheVariants.{CutBill, PastTotal}
-use Rattle.refusals.specs.declared.Outcome.{Outcome}
-use Rattle.refusals.specs.declared.Outcome.TheVariants.{Done}
-use Rattle.refusals.specs.Refusals.{is_done, first}
+use Rattle.refusals.specs.Refusals.{Outcome, Done, Refused, is_done, giving, first}
 use Rattle.desk.specs.declared.Record.{Record}
 use Rattle.desk.specs.Desk.{record_length, record_of}
 use Rattle.totals.specs.declared.Totals.{Totals}
@@ -38,21 +36,16 @@ abbrev pub is_past : Totals → Bool
 is_past t =
     ltb most t.count || ltb most t.seconds || ltb most t.positive || ltb most t.negative || ltb most t.distance
 
--- so each total that is not past them is at most that
-pub record Fits (t : Totals) : Type 0 where
-  pub count : t.count ≤ most
-  pub seconds : t.seconds ≤ most
-  pub positive : t.positive ≤ most
-  pub negative : t.negative ≤ most
-  pub distance : t.distance ≤ most
-
 abbrev pub past_rows : Totals → List (Refusal × Bool)
 past_rows t = (PastTotal, is_past t) ∷ []
 
--- after it, the totals before it
-unfoldable pub taken_of : Totals → Record → Billed
-taken_of t r =
-    record { outcome = first (past_rows (with_record t r)); totals = cond (is_past (with_record t r)) t (with_record t r) }
+unfoldable pub taken_of : Totals → Record → Result Totals Refusal
+taken_of t r = giving (first (past_rows (with_record t r))) (with_record t r)
+
+-- after a refusal, the totals before it
+abbrev pub goes_on : Totals → Result Totals Refusal → (Totals → Billed) → Billed
+goes_on t (Ok more) rest = rest more
+goes_on t (Err refusal) rest = record { outcome = Refused refusal; totals = t }
 
 -- ---- records in a row
 
@@ -74,7 +67,7 @@ cut_rows bytes = (CutBill, is_cut bytes) ∷ []
 -- one after the other; the first that is refused is the last, and otherwise the end comes after them
 unfoldable pub in_order : Totals → List Record → Outcome → Billed
 in_order t [] end = record { outcome = end; totals = t }
-in_order t (r ∷ rs) end = cond (is_done (taken_of t r).outcome) (in_order (taken_of t r).totals rs end) (taken_of t r)
+in_order t (r ∷ rs) end = goes_on t (taken_of t r) (λ (more : Totals). in_order more rs end)
 
 -- what bytes come to after such totals
 unfoldable pub billed_of : Totals → List ℕ → Billed

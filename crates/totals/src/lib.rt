@@ -1,9 +1,9 @@
 // What the records of a month come to: their count, and the exact totals of seconds, both sums and distance.
 #![tactic(auto)]
 
-ghost use Rattle.std.specs.Prelude.{◌≡◌, ◌+◌, ltb};
-ghost use Rattle.refusals.specs.Refusals.{is_done, first};
-ghost use Rattle.totals.specs.Totals.{most, no_totals, with_record, is_past, Fits, taken_of, cut_rows, billed_of, so_far, followed_by};
+ghost use Rattle.std.specs.Prelude.{cond, None, Some, ◌≡◌};
+ghost use Rattle.refusals.specs.Refusals.{first};
+ghost use Rattle.totals.specs.Totals.{no_totals, with_record, is_past, taken_of, cut_rows, billed_of, so_far, followed_by};
 
 use desk::{RECORD, Record};
 use refusals::{Outcome, Refusal};
@@ -17,7 +17,7 @@ pub struct Totals {
     pub distance: u64,
 }
 
-// What bytes come to, and the totals up to there.
+// What bytes come to, and the totals up to there. No `Result`: the totals are told after a refusal too.
 #[derive(Clone, Copy)]
 pub struct Billed {
     pub outcome: Outcome,
@@ -30,24 +30,16 @@ impl Billed {
         ensures { result ≡ so_far no_totals }
     {
         Billed {
-            outcome: Outcome::Done,
+            outcome: Ok(()),
             totals: Totals::none(),
         }
-    }
-
-    // Nothing is refused so far, so more may follow.
-    pub fn is_done(self) -> bool
-        ensures { result ≡ is_done self.outcome }
-    {
-        let outcome = self.outcome;
-        outcome.is_done()
     }
 
     // With the bytes that follow; they are not taken where those before were refused.
     pub fn followed_by(self, bytes: &[u8]) -> Billed
         ensures { result ≡ followed_by self bytes.now }
     {
-        if self.is_done() {
+        if self.outcome.is_ok() {
             return self.totals.billed(bytes);
         }
         self
@@ -72,76 +64,53 @@ impl Totals {
         ensures { result ≡ billed_of self bytes.now }
     {
         let mut totals = self;
-        let mut rest = bytes;
-        while RECORD <= rest.len() {
-            let next = totals.taken(Record::of(&rest[..RECORD]));
-            let outcome = next.outcome;
-            if !outcome.is_done() {
-                return next;
+        for record in bytes.chunks_exact(RECORD) {
+            match totals.taken(Record::of(record)) {
+                Ok(more) => totals = more,
+                Err(refusal) => {
+                    return Billed {
+                        outcome: Err(refusal),
+                        totals,
+                    };
+                }
             }
-            totals = next.totals;
-            rest = &rest[RECORD..];
         }
         Billed {
-            outcome: cut_outcome(rest.len()),
+            outcome: cut_outcome(bytes.len()),
             totals,
         }
     }
 
-    // One record more; these as they were where a total would pass 64 bits.
-    pub fn taken(self, hired: Record) -> Billed
+    // One record more; refused where a total would pass 64 bits.
+    #[tactic(auto, unfolding(refusals::specs::Refusals::first, crate::specs::Totals::taken_of))]
+    pub fn taken(self, hired: Record) -> Result<Totals, Refusal>
         ensures { result ≡ taken_of self hired }
     {
-        if self.is_past_with(hired) {
-            return Billed {
-                outcome: Outcome::Refused(Refusal::PastTotal),
-                totals: self,
-            };
-        }
-        Billed {
-            outcome: Outcome::Done,
-            totals: self.with_record(hired),
-        }
+        self.with_record(hired).ok_or(Refusal::PastTotal)
     }
 
-    fn with_record(self, hired: Record) -> Totals
-        requires { Fits (with_record self hired) }
-        ensures { result ≡ with_record self hired }
+    // None where a total would pass 64 bits.
+    fn with_record(self, hired: Record) -> Option<Totals>
+        ensures { result ≡ cond (is_past (with_record self hired)) None (Some (with_record self hired)) }
     {
-        Totals {
-            count: self.count + 1,
-            seconds: self.seconds + (hired.seconds as u64),
-            positive: self.positive + hired.positive,
-            negative: self.negative + hired.negative,
-            distance: self.distance + (hired.distance as u64),
-        }
-    }
-
-    fn is_past_with(self, hired: Record) -> bool
-        ensures { result ≡ is_past (with_record self hired) }
-    {
-        is_past(self.count, 1)
-            | is_past(self.seconds, hired.seconds as u64)
-            | is_past(self.positive, hired.positive)
-            | is_past(self.negative, hired.negative)
-            | is_past(self.distance, hired.distance as u64)
+        Some(Totals {
+            count: self.count.checked_add(1)?,
+            seconds: self.seconds.checked_add(hired.seconds as u64)?,
+            positive: self.positive.checked_add(hired.positive)?,
+            negative: self.negative.checked_add(hired.negative)?,
+            distance: self.distance.checked_add(hired.distance as u64)?,
+        })
     }
 }
 
-// Would the sum be past 64 bits?
-fn is_past(total: u64, more: u64) -> bool
-    ensures { result ≡ ltb most (total + more) }
+// What a bill comes to after the whole records of so many bytes.
+#[tactic(auto, unfolding(refusals::specs::Refusals::first))]
+fn cut_outcome(bytes: usize) -> Outcome
+    ensures { result ≡ first (cut_rows bytes) }
 {
-    u64::MAX - more < total
-}
-
-// What a bill comes to that ends with so many bytes, fewer than a record has.
-fn cut_outcome(left: usize) -> Outcome
-    ensures { result ≡ first (cut_rows left) }
-{
-    if left % RECORD == 0 {
-        Outcome::Done
+    if bytes % RECORD == 0 {
+        Ok(())
     } else {
-        Outcome::Refused(Refusal::CutBill)
+        Err(Refusal::CutBill)
     }
 }

@@ -5,10 +5,8 @@ use mathlib.Core.Bool.{Bool, true, false}
 use mathlib.Core.List.{List, [], ◌∷◌, ◌++◌}
 use Prim.Native.Nat.{ℕ, zero, suc}
 use lib.ListN.{replicate}
-use Rattle.refusals.specs.declared.Outcome.{Outcome}
-use Rattle.refusals.specs.declared.Outcome.TheVariants.{Done, Refused}
+use Rattle.refusals.specs.Refusals.{Outcome, Done, Refused, come_to, first}
 use Rattle.refusals.specs.declared.Refusal.TheVariants.{OutOfRange, OutOfOrder}
-use Rattle.refusals.specs.Refusals.{first}
 use Rattle.settings.specs.Settings as settings
 use Rattle.signed.specs.Signed.{bits_of, from_bits}
 use Rattle.writes.specs.declared.Form.{Form}
@@ -49,7 +47,7 @@ by_list = (refl, refl, refl, refl, refl, refl, refl)
 two_pairs : List ℕ → Outcome × ℕ
 two_pairs fields =
     let w = written_to settings.factory (pairs_of form.List (0xAA ∷ 0x0D ∷ 8 ∷ fields) 2) in
-    (w.outcome, settings.register_of w.settings 315)
+    (come_to w, settings.register_of (settings.standing_of settings.factory w) 315)
 
 repeated :
     (two_pairs (0x3B ∷ 0x01 ∷ 0xB8 ∷ 0x0B ∷ 0x3B ∷ 0x01 ∷ 0x68 ∷ 0x10 ∷ []) ≡ (Done, 4200))

@@ -11,7 +11,7 @@ use Rattle.laws.specs.History.{head_or, newest}
 use Rattle.settings.specs.declared.Settings.{Settings}
 use Rattle.settings.specs.declared.Draft.{Draft}
 use Rattle.settings.specs.Settings as settings
-use Rattle.settings.proofs.Drafts.{Hundred, Held, put_hundred, begun_hundred, put_at, put_standing, begun_at, read_back}
+use Rattle.settings.proofs.Drafts.{Hundred, Held, put_hundred, begun_hundred, put_at, begun_at, read_back}
 use Rattle.signed.specs.Signed.{bits_of, from_bits}
 use Rattle.writes.specs.declared.Pair.{Pair}
 use Rattle.writes.specs.Writes.{names, last_of, drafted_of, written_to}
@@ -84,24 +84,16 @@ drafted_settings s ps held =
 
 -- ---- only the final values are judged
 
-pub drafted_standing : (d : Draft) (ps : List Pair) → (drafted_of d ps).standing ≡ d.standing
-unfolding drafted_of
-drafted_standing d [] = refl
-drafted_standing d (p ∷ ps) = put_standing (drafted_of d ps) p.at p.value ∙ drafted_standing d ps
-
 -- writes that leave each register of 300 to 399 on the same value are judged alike and leave the same settings, whatever else they gave it
 pub final_values : (s : Settings) (ps qs : List Pair)
     → ((at : ℕ) → 300 ≤ at → at ≤ 399
     → last_of (settings.register_of s at) at (λ v. v) ps ≡ last_of (settings.register_of s at) at (λ v. v) qs)
     → written_to s ps ≡ written_to s qs
 final_values s ps qs same =
-    ap settings.written_of (λ i. record { standing = standing i; values = values i })
+    ap settings.written_of (λ i. record { values = values i })
   where
     draft : List Pair → Draft
     draft ps = drafted_of (settings.draft_of s) ps
-
-    standing : (draft ps).standing ≡ (draft qs).standing
-    standing = drafted_standing (settings.draft_of s) ps ∙ sym (drafted_standing (settings.draft_of s) qs)
 
     hundred : (ps : List Pair) → Hundred (draft ps)
     hundred ps = drafted_hundred (settings.draft_of s) ps (begun_hundred s)

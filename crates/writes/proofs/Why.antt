@@ -10,7 +10,8 @@ use native.Mathlib.Omega.{arith}
 use borrow.Author.Tests.{not-true, not-false}
 use Rattle.laws.specs.History.{any, head_or, newest}
 use Rattle.refusals.specs.declared.Refusal.TheVariants.{OutOfRange, OutOfOrder}
-use Rattle.refusals.specs.declared.Outcome.TheVariants.{Refused}
+use Rattle.refusals.specs.Refusals.{Refused, come_to}
+use Rattle.refusals.proofs.Rows.{come_to_giving}
 use Rattle.settings.specs.declared.Settings.{Settings}
 use Rattle.settings.specs.Settings as settings
 use Rattle.settings.proofs.Drafts.{AllFit, in_range_is}
@@ -40,6 +41,9 @@ module _ (s : Settings) (stands : settings.in_range s ≡ true) (ps : List Pair)
   ends : (at : ℕ) → 300 ≤ at → at ≤ 399 → settings.value_in values at ≡ final at
   ends at l m = last_given_lem at l m s ps
 
+  judged : come_to (written_to s ps) ≡ settings.judged_of values
+  judged = come_to_giving (settings.judged_of values) (settings.settings_in (drafted_of (settings.draft_of s) ps))
+
   pub record Outside (at : ℕ) : Type 0 where
     pub written : any (names at) ps ≡ true
     pub outside : settings.fits at (final at) ≡ false
@@ -50,10 +54,10 @@ module _ (s : Settings) (stands : settings.in_range s ≡ true) (ps : List Pair)
   named at l m out false e =
       absurd (false≢true (sym out ∙ ap (settings.fits at) (unnamed ps at (settings.register_of s at) e) ∙ (in_range_is s).0 stands at l m))
 
-  pub why_44 : (at : ℕ) → (written_to s ps).outcome ≡ Refused (OutOfRange at) → Outside at
+  pub why_44 : (at : ℕ) → come_to (written_to s ps) ≡ Refused (OutOfRange at) → Outside at
   unfolding settings.is_out
   why_44 at e =
-      let f = told_44 values at e in
+      let f = told_44 values at (sym judged ∙ e) in
       let out : settings.fits at (final at) ≡ false =
       sym (ap (settings.fits at) (ends at f.least (omega (arith, f.most)))) ∙ not-true _ f.here in
       record {
@@ -63,9 +67,9 @@ module _ (s : Settings) (stands : settings.in_range s ≡ true) (ps : List Pair)
             sym (ap (settings.fits other) (ends other l (omega (arith, f.most)))) ∙ not-false _ (f.below other l m);
       }
 
-  pub why_45 : ((written_to s ps).outcome ≡ Refused OutOfOrder)
+  pub why_45 : (come_to (written_to s ps) ≡ Refused OutOfOrder)
       ↔ (AllFit final × (settings.ordered (settings.settings_in (drafted_of (settings.draft_of s) ps)) ≡ false))
   why_45 = (
-    λ e. let h = (told_45 values).0 e in (λ at l m. sym (ap (settings.fits at) (ends at l m)) ∙ h.0 at l m, h.1),
-    λ h. (told_45 values).1 (λ at l m. ap (settings.fits at) (ends at l m) ∙ h.0 at l m, h.1),
+    λ e. let h = (told_45 values).0 (sym judged ∙ e) in (λ at l m. sym (ap (settings.fits at) (ends at l m)) ∙ h.0 at l m, h.1),
+    λ h. judged ∙ (told_45 values).1 (λ at l m. ap (settings.fits at) (ends at l m) ∙ h.0 at l m, h.1),
   )

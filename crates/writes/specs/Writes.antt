@@ -1,10 +1,10 @@
 -- The three writes, 0x10, 0x0B and 0x0D: which registers they write, their rules, and what they make of the settings.
 -- Assumes nothing.
-use Rattle.std.specs.Prelude.{Bool, true, ◌&&◌, List, [], ◌∷◌, map, ℕ, zero, suc, ◌+◌, ◌-◌, ◌*◌, ◌/◌, eqb, leb, get_or}
+use Rattle.std.specs.Prelude.{Bool, true, ◌&&◌, List, [], ◌∷◌, map, ℕ, zero, suc, ◌+◌, ◌-◌, ◌*◌, ◌/◌, eqb, leb, get_or, Result}
 use Rattle.laws.specs.History.{head_or, newest}
 use Rattle.settings.specs.declared.Draft.{Draft}
 use Rattle.settings.specs.declared.Settings.{Settings}
-use Rattle.settings.specs.declared.Written.{Written}
+use Rattle.refusals.specs.declared.Refusal.{Refusal}
 use Rattle.settings.specs.Settings as settings
 use Rattle.writes.specs.declared.Form.{Form}
 use Rattle.writes.specs.declared.Form.TheVariants as form
@@ -59,8 +59,8 @@ unfoldable pub drafted_of : Draft → List Pair → Draft
 drafted_of d [] = d
 drafted_of d (p ∷ ps) = settings.put_of (drafted_of d ps) p.at p.value
 
--- judged whole, the write's verdict and the settings that then stand
-abbrev pub written_to : Settings → List Pair → Written
+-- judged whole: the settings that it leaves, or why it is refused
+abbrev pub written_to : Settings → List Pair → Result Settings Refusal
 written_to st ps = settings.written_of (drafted_of (settings.draft_of st) ps)
 
 -- what the last of these pairs that names a register gives it; a repeated address takes the later value

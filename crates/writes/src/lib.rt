@@ -1,12 +1,13 @@
 // What a write holds: its registers, how many there are, and what they make of the settings. Read from a request's bytes alone, with no length trusted.
 #![tactic(auto)]
 
-ghost use Rattle.std.specs.Prelude.{◌&&◌, ◌||◌, ◌≡◌, ◌+◌, ◌-◌, eqb, leb};
+ghost use Rattle.std.specs.Prelude.{◌&&◌, ◌||◌, ◌≡◌, ◌+◌, eqb, leb};
 ghost use Rattle.numbers.specs.Numbers.{be16_at};
 ghost use Rattle.writes.specs.Writes.{write_command, pair_at, pairs_of, count_of, well_counted, all_settings, keeps_rules, drafted_of, written_to};
 
 use numbers::{byte_at, high_first_16, low_first_16};
-use settings::{Draft, Settings, Written, put_value};
+use refusals::Refusal;
+use settings::{Draft, Settings, put_value};
 
 // How a write has its registers: 0x10's block, high byte first; 0x0B's block; 0x0D's list of pairs.
 #[derive(Clone, Copy)]
@@ -25,6 +26,7 @@ pub struct Pair {
 
 impl Form {
     // The command byte of each.
+    #[tactic(auto, unfolding(crate::specs::Writes::write_command))]
     pub fn command(self) -> u8
         ensures { result ≡ write_command self }
     {
@@ -44,20 +46,15 @@ pub fn write_address(bytes: &[u8]) -> u16
 }
 
 // How many registers a write has by its RL or PL.
+#[tactic(auto, unfolding(crate::specs::Writes::count_of))]
 pub fn count_of(form: Form, bytes: &[u8]) -> u8
     ensures { result ≡ count_of form bytes.now }
 {
     match form {
         Form::Modbus => byte_at(bytes, 5),
-        Form::Block => one_less(byte_at(bytes, 2) / 2),
+        Form::Block => (byte_at(bytes, 2) / 2).saturating_sub(1),
         Form::List => byte_at(bytes, 2) / 4,
     }
-}
-
-fn one_less(n: u8) -> u8
-    ensures { result ≡ n - 1 }
-{
-    if n == 0 { 0 } else { n - 1 }
 }
 
 // A write of so many registers keeps the rules of its fields.
@@ -68,6 +65,7 @@ pub fn keeps_rules(form: Form, bytes: &[u8], count: u8) -> bool
 }
 
 // As many as it may have, and PL says so.
+#[tactic(auto, unfolding(crate::specs::Writes::well_counted))]
 fn is_counted(form: Form, bytes: &[u8], count: u8) -> bool
     ensures { result ≡ well_counted form bytes.now count }
 {
@@ -105,17 +103,15 @@ fn are_listed_settings(bytes: &[u8], count: u8) -> bool
     ensures { result ≡ all_settings (pairs_of Form.List bytes.now count) }
 {
     let mut good = true;
-    let mut i: u16 = 0;
-    while i < (count as u16) {
-        let at = low_first_16(bytes, 3 + 4 * (i as usize));
+    for i in 0..(count as usize) {
+        let at = low_first_16(bytes, 3 + 4 * i);
         good = good & ((300 <= at) & (at <= 399));
-        i += 1;
     }
     good
 }
 
-// A write to settings that stand: judged whole, and what then stands.
-pub fn written(settings: Settings, bytes: &[u8], form: Form, count: u8) -> Written
+// A write to settings that stand, judged whole: the settings that it leaves.
+pub fn written(settings: Settings, bytes: &[u8], form: Form, count: u8) -> Result<Settings, Refusal>
     ensures { result ≡ written_to settings (pairs_of form bytes.now count) }
 {
     drafted(settings.draft(), bytes, form, count).finish()
@@ -125,18 +121,16 @@ pub fn written(settings: Settings, bytes: &[u8], form: Form, count: u8) -> Writt
 fn drafted(draft: Draft, bytes: &[u8], form: Form, count: u8) -> Draft
     ensures { result ≡ drafted_of draft (pairs_of form bytes.now count) }
 {
-    let standing = draft.standing;
     let mut values = draft.values;
-    let mut i: u16 = 0;
-    while i < (count as u16) {
+    for i in 0..(count as u16) {
         let pair = pair_at(form, bytes, i);
         put_value(&mut values, pair.at, pair.value);
-        i += 1;
     }
-    Draft { standing, values }
+    Draft { values }
 }
 
 // The i-th register of a write.
+#[tactic(auto, unfolding(crate::specs::Writes::pair_at))]
 fn pair_at(form: Form, bytes: &[u8], i: u16) -> Pair
     ensures { result ≡ pair_at form bytes.now i }
 {

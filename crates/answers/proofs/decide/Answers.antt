@@ -1,23 +1,19 @@
--- By cases on what is asked. Assumes nothing.
-use Rattle.answers.specs.Answers.{asked_outcome, asked_settings}
+-- What the bytes ask, and the settings after it. Assumes nothing.
+use mathlib.Core.Path.{ap, ◌∙◌}
+use Rattle.std.proofs.lemmas.Result.{err_from_is_err_and}
+use Rattle.settings.specs.declared.Settings.{Settings}
+use Rattle.requests.specs.declared.Request.{Request}
+use Rattle.refusals.proofs.Rows.{mapped, mapped_giving}
+use Rattle.answers.specs.declared.Taken.{Taken}
+use Rattle.answers.specs.Answers.{taking}
 use Rattle.answers.proofs.decide.Goals as goal
 
-pub returns-in-Refused : goal.returns-in-Refused
-unfolding asked_outcome asked_settings
-returns-in-Refused c = rw c.in-Refused.is c.stays.ensures
+abbrev asking : Request → Settings → Taken
+asking asked settings = record { asked = asked; settings = settings }
 
-pub returns-in-ClearEvents : goal.returns-in-ClearEvents
-unfolding asked_outcome asked_settings
-returns-in-ClearEvents c = rw c.in-ClearEvents.is c.stays-in-ClearEvents.ensures
-
-pub returns-in-ClearStatistics : goal.returns-in-ClearStatistics
-unfolding asked_outcome asked_settings
-returns-in-ClearStatistics c = rw c.in-ClearStatistics.is c.stays-in-ClearStatistics.ensures
-
-pub returns-in-Write : goal.returns-in-Write
-unfolding asked_outcome asked_settings
-returns-in-Write c = rw c.in-Write.is c.written.ensures
-
-pub returns-in-Read : goal.returns-in-Read
-unfolding asked_outcome asked_settings
-returns-in-Read c = rw c.in-Read.is c.stays-in-Read.ensures
+pub returns-in_err-settings : goal.returns-in_err-settings
+returns-in_err-settings c =
+    let p = err_from_is_err_and c.from_residual-in_err-settings.result c.from_residual-in_err-settings.ensures.1 in
+    rw (p.1, p.2)
+    (ap (mapped (asking c.in_ok-asked.asked)) c.in_err-settings.ensures ∙ mapped_giving (asking c.in_ok-asked.asked) _ _
+    ∙ ap (taking c.args.pack c.args.request.now) c.in_ok-asked.ensures)

@@ -1,22 +1,12 @@
 -- The words of the query, then the first two bytes, the length byte, the words and the end. Assumes nothing.
-use Prim.Native.Nat.{◌+◌, ◌*◌, ◌≤◌}
+use Prim.Native.Nat.{◌+◌, ◌*◌}
 use native.Mathlib.Omega.{arith}
 use Rattle.requests.specs.Requests.{high_first}
 use Rattle.replies.specs.Replies.{word16}
 use Rattle.answers.specs.Making.{word_of}
-use Rattle.answers.proofs.Made.{within_three, sent}
+use Rattle.answers.proofs.Made.{sent}
 use Rattle.answers.proofs.Blocks.{of_row}
-use borrow.Author.Rules.{rules}
 use Rattle.answers.proofs.send.Goals as goal
-
-pub put_words-requires : goal.put_words-requires
-put_words-requires c = let h : c.put_length-from.result ≤ 3 = rw c.put_length-from.ensures.place_is (within_three c.has_length.result) in search rules
-
-pub overflow_add-from : goal.overflow_add-from
-overflow_add-from c = let h : c.put_length-from.result ≤ 3 = rw c.put_length-from.ensures.place_is (within_three c.has_length.result) in search rules
-
-pub seal-requires : goal.seal-requires
-seal-requires c = let h : c.put_length-from.result ≤ 3 = rw c.put_length-from.ensures.place_is (within_three c.has_length.result) in search rules
 
 pub returns : goal.returns
 returns c =

@@ -1,4 +1,5 @@
 -- By cases on the query, each row what its call gives. Assumes nothing.
+use Rattle.std.specs.Prelude.{Ok}
 use mathlib.Core.Path.{refl, ap, ◌∙◌}
 use Prim.Native.Nat.{◌+◌}
 use native.Mathlib.Nat.{zero-add}
@@ -14,13 +15,13 @@ use Rattle.answers.proofs.words_of.Goals as goal
 pub block-requires : goal.block-requires
 block-requires c =
     let a = c.args in
-    registers_lie a.pack a.hire a.request.now _ _ _ (c.requires.0 ∙ ap request.Read c.in-Registers.is)
+    registers_lie a.pack a.hire a.request.now _ _ _ (c.requires.0 ∙ ap (λ q. Ok (request.Read q)) c.in-Registers.is)
     (c.requires.1.0 ∙ ap (count_of a.pack a.hire) c.in-Registers.is)
 
 pub block-requires-in-Bare : goal.block-requires-in-Bare
 block-requires-in-Bare c =
     let a = c.args in
-    bare_lie a.pack a.hire a.request.now _ _ _ (c.requires.0 ∙ ap request.Read c.in-Bare.is)
+    bare_lie a.pack a.hire a.request.now _ _ _ (c.requires.0 ∙ ap (λ q. Ok (request.Read q)) c.in-Bare.is)
     (c.requires.1.0 ∙ ap (count_of a.pack a.hire) c.in-Bare.is)
 
 pub block-requires-in-Cells : goal.block-requires-in-Cells

@@ -1,4 +1,5 @@
 -- A call leads from the board that a history makes to the board that the history with its deed makes. Assumes nothing.
+use Rattle.std.specs.Prelude.{Err, Ok}
 use mathlib.Core.Path.{◌≡◌, refl, sym, ap, ap₂, ◌∙◌}
 use mathlib.Core.Bool.{Bool, true, false, ◌&&◌, ◌||◌, not, cond}
 use mathlib.Core.List.{List, [], ◌∷◌, ◌++◌, reverse, reverse-append, reverse-reverse}
@@ -10,8 +11,7 @@ use Rattle.laws.specs.Fold.{shifted}
 use Rattle.laws.specs.History.{since, each, latest}
 use Rattle.laws.proofs.Lists.{latest_few}
 use Rattle.refusals.specs.declared.Refusal.TheVariants.{NoRoom, NoFrameHeld}
-use Rattle.refusals.specs.declared.Outcome.TheVariants.{Done}
-use Rattle.refusals.specs.Refusals.{is_done, first}
+use Rattle.refusals.specs.Refusals.{Done, is_done, first}
 use Rattle.refusals.proofs.Rows.{refused_not, done_is, off}
 use Rattle.cells.specs.Cells.{extremes_of, decision_of}
 use Rattle.classes.specs.Store.{pairs_for}
@@ -32,9 +32,8 @@ use Rattle.settings.proofs.Drafts.{done_stands}
 use Rattle.statistics.specs.Statistics.{ridden_of, counted_of, cleared_at}
 use Rattle.writes.specs.declared.Pair.{Pair}
 use Rattle.writes.specs.Writes.{pairs_of, drafted_of, written_to}
-use Rattle.requests.specs.declared.Request.{Request}
 use Rattle.requests.specs.declared.Request.TheVariants as request
-use Rattle.requests.specs.Requests.{request_of, marks}
+use Rattle.requests.specs.Requests.{request_of, marks, Asked}
 use Rattle.pack.specs.declared.Clock.{Clock}
 use Rattle.pack.specs.Pack.{later_of}
 use Rattle.hire.specs.Hire.{new_hire}
@@ -185,20 +184,20 @@ module _ (cells per_km : ℕ) where
     before = board_at cells per_km h
 
     -- a write that is accepted
-    written_goes : (ps : List Pair) → (written_to before.pack.settings ps).outcome ≡ Done
+    written_goes : (ps : List Pair) → settings.outcome_of (drafted_of (settings.draft_of (settings_at h)) ps) ≡ Done
         → changes.written before ps ≡ board_at cells per_km (wrote ps ∷ h)
     unfolding board_at
-    written_goes ps e = ap (with_settings before) (done_stands (drafted_of (settings.draft_of (settings_at h)) ps) e) ∙ wrote_goes h ps
+    written_goes ps e = ap (with_settings before) (done_stands (settings_at h) (drafted_of (settings.draft_of (settings_at h)) ps) e) ∙ wrote_goes h ps
 
     -- a request that is accepted
-    asked_goes : (s : List ℕ) (q : Request) → asked_outcome before.pack s q ≡ Done
+    asked_goes : (s : List ℕ) (q : Asked) → asked_outcome before.pack s q ≡ Done
         → changed_by before s q ≡ board_at cells per_km (asked_deeds s q ++ h)
     unfolding changed_by asked_deeds asked_outcome board_at
-    asked_goes s (request.Refused refusal) e = absurd (refused_not refusal e)
-    asked_goes s request.ClearEvents e = forgot_goes h
-    asked_goes s request.ClearStatistics e = cleared_goes h
-    asked_goes s (request.Write f n) e = written_goes (pairs_of f s n) e
-    asked_goes s (request.Read q) e = go (marks q)
+    asked_goes s (Err refusal) e = absurd (refused_not refusal e)
+    asked_goes s (Ok request.ClearEvents) e = forgot_goes h
+    asked_goes s (Ok request.ClearStatistics) e = cleared_goes h
+    asked_goes s (Ok (request.Write f n)) e = written_goes (pairs_of f s n) e
+    asked_goes s (Ok (request.Read q)) e = go (marks q)
       where
         go : (t : Bool)
             → with_events before (cond t (sent_of before.hire.events) before.hire.events)

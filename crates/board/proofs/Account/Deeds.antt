@@ -1,6 +1,7 @@
 -- A history of calls, deed by deed: what holds at the start and is kept by every deed that a call may do, holds after all calls. Which
 -- calls there are does not matter here: each says, by its shape, which deeds it does, and `allowed` that those may be done. Assumes
 -- nothing.
+use Rattle.std.specs.Prelude.{Err, Ok}
 use mathlib.Core.Path.{◌≡◌, refl, ◌∙◌}
 use mathlib.Core.Bool.{Bool, true, false, cond}
 use mathlib.Core.List.{List, [], ◌∷◌, ◌++◌}
@@ -9,17 +10,15 @@ use lib.ListN.{length}
 use Rattle.laws.specs.History.{any}
 use Rattle.refusals.specs.declared.Refusal.TheVariants.{NoRoom, WrongCells, WrongCurrent, NoInternal, WrongPulses, WrongArea}
 use Rattle.refusals.specs.declared.Refusal.TheVariants.{UsedAfterUnused, NeverRecorded, NoFrameHeld}
-use Rattle.refusals.specs.declared.Outcome.TheVariants.{Done}
-use Rattle.refusals.specs.Refusals.{is_done, first}
+use Rattle.refusals.specs.Refusals.{Done, is_done, first}
 use Rattle.refusals.proofs.Rows.{done_is, off}
 use Rattle.classes.proofs.Laws as classes
 use Rattle.events.specs.declared.Event.{Event}
 use Rattle.events.specs.Area.{records_in, used_of, never_recorded, load_rows}
 use Rattle.readings.specs.declared.Readings.{Readings}
 use Rattle.readings.specs.Readings.{wrong_cells, wrong_current, no_internal, wrong_pulses}
-use Rattle.requests.specs.declared.Request.{Request}
 use Rattle.requests.specs.declared.Request.TheVariants as request
-use Rattle.requests.specs.Requests.{request_of, marks}
+use Rattle.requests.specs.Requests.{request_of, marks, Asked}
 use Rattle.answers.specs.Answers.{write_outcome, asked_outcome}
 use Rattle.pack.specs.Pack.{usable_count}
 use Rattle.board.specs.declared.Board.{Board}
@@ -63,13 +62,13 @@ module _ (cells per_km : ℕ) where
     abbrev b : Board
     b = board_at cells per_km h
 
-    asked_may : (s : List ℕ) (q : Request) → asked_outcome b.pack s q ≡ Done → AllMay h (asked_deeds s q)
+    asked_may : (s : List ℕ) (q : Asked) → asked_outcome b.pack s q ≡ Done → AllMay h (asked_deeds s q)
     unfolding asked_deeds asked_outcome board_at
-    asked_may s (request.Refused refusal) e = tt
-    asked_may s request.ClearEvents e = (tt, tt)
-    asked_may s request.ClearStatistics e = (tt, tt)
-    asked_may s (request.Write f n) e = (e, tt)
-    asked_may s (request.Read q) e = go (marks q)
+    asked_may s (Err refusal) e = tt
+    asked_may s (Ok request.ClearEvents) e = (tt, tt)
+    asked_may s (Ok request.ClearStatistics) e = (tt, tt)
+    asked_may s (Ok (request.Write f n)) e = (e, tt)
+    asked_may s (Ok (request.Read q)) e = go (marks q)
       where
         go : (t : Bool) → AllMay h (cond t (sent ∷ []) [])
         go true = (tt, tt)

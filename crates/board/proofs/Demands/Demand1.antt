@@ -9,9 +9,8 @@ use lib.Dec.{eqb, ltb}
 use lib.ListN.{replicate}
 use Rattle.refusals.specs.declared.Refusal.{Refusal}
 use Rattle.refusals.specs.declared.Refusal.TheVariants.{NoRoom, Foreign, FrameHeld, NoFrameHeld, NoBoard}
-use Rattle.refusals.specs.declared.Outcome.{Outcome}
-use Rattle.refusals.specs.declared.Outcome.TheVariants.{Done, Refused}
-use Rattle.refusals.specs.Refusals.{refusal_number, number_of, is_done, first}
+use Rattle.refusals.specs.Refusals.{Outcome, Done, Refused, refusal_number, number_of, is_done, first}
+use Rattle.std.specs.Prelude.{Ok, Err}
 use Rattle.refusals.proofs.Rows.{refused_not, not_done}
 use Rattle.receiver.specs.Receiver.{no_bytes, complete}
 use Rattle.receiver.specs.Heard.{after_hearing}
@@ -127,8 +126,8 @@ module _ (b : Board) (room : ℕ) (nack : nacks (outcome_in b (fetch room)) ≡ 
       or-true false u e = rw e refl
 
       go : (o : Outcome) → nacks o ≡ true → board_by b (shape (fetch room)) o ≡ let_go b
-      go Done k = absurd (false≢true k)
-      go (Refused refusal) k = rw (or-true (eqb (refusal_number refusal) 2) _ k) refl
+      go (Ok done) k = absurd (false≢true k)
+      go (Err refusal) k = rw (or-true (eqb (refusal_number refusal) 2) _ k) refl
 
   then_none : outcome_in (let_go b) (fetch room) ≡ Refused NoFrameHeld
   unfolding shape outcome_of first

@@ -17,9 +17,7 @@ use Rattle.board.specs.Start.{start_board}
 use Rattle.hire.specs.Hire.{new_hire}
 use Rattle.pack.specs.Pack.{new_pack}
 use Rattle.board.specs.Handover.{handed_over}
-use Rattle.refusals.specs.declared.Outcome.{Outcome}
-use Rattle.refusals.specs.declared.Outcome.TheVariants.{Done}
-use Rattle.refusals.specs.Refusals.{is_done, first}
+use Rattle.refusals.specs.Refusals.{Outcome, Done, is_done, first}
 use Rattle.board.specs.Calls.{Call, seen, handover, shape, board_by, outcome_in, step}
 use Rattle.board.specs.Behaviour.{Behaviour, board, after_in, answers_in}
 use Rattle.board.specs.Account.{Deed, board_at, clock_at, seconds_at, count_at}

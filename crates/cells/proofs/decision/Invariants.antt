@@ -1,13 +1,8 @@
 -- A bit for each cell from the last down; the lowest cell is that of all. Assumes nothing.
-use Prim.Native.Nat.{◌-◌}
-use native.Mathlib.Omega.{arith}
+use Rattle.std.proofs.Common.{take}
 use Rattle.cells.specs.Cells.{decides}
-use Rattle.laws.proofs.Bits.{Packed, none_packed, one_down, room, all_packed}
-use borrow.Author.Rules.{rules}
+use Rattle.cells.proofs.Downward.{Taken}
 use Rattle.cells.proofs.decision.Given as goal
 
-abbrev pub invariant-loop-i : goal.invariant-loop-i
-invariant-loop-i l = Packed (decides l.r303 l.r308 l.low) l.bits 16 l.cells l.i
-
-abbrev pub decreases-loop-i : goal.decreases-loop-i
-decreases-loop-i l = l.i
+abbrev pub invariant-loop-cell : goal.invariant-loop-cell
+invariant-loop-cell l = Taken (decides l.r303 l.r308 l.low) l.bits (take 16 l.cells) l.cell-iterator.iter.rest.now

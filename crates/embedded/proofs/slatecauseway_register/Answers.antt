@@ -2,8 +2,8 @@
 use Rattle.embedded.proofs.Hands.{some_word, no_word}
 use Rattle.embedded.proofs.slatecauseway_register.Goals as goal
 
-pub returns-in-Register : goal.returns-in-Register
-returns-in-Register c = some_word c.register.ensures c.in-Register.is
+pub returns-in-Some : goal.returns-in-Some
+returns-in-Some c = some_word c.register.ensures c.in-Some.is
 
-pub returns-in-Nothing : goal.returns-in-Nothing
-returns-in-Nothing c = no_word c.register.ensures c.in-Nothing.is
+pub returns-in-None : goal.returns-in-None
+returns-in-None c = no_word c.register.ensures c.in-None.is

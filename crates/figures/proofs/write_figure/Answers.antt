@@ -1,13 +1,8 @@
 -- The minus, the whole part and the places, one behind the other. Assumes nothing.
+use Rattle.std.proofs.Math.Nat.{one-le-pow}
 use native.Mathlib.Omega.{arith}
 use Rattle.figures.proofs.Texts.{figure_wrote}
 use Rattle.figures.proofs.write_figure.Goals as goal
-
-pub power_of_ten-requires : goal.power_of_ten-requires
-power_of_ten-requires c = omega (arith, c.lesser-held.ensures)
-
-pub nonzero_div-size : goal.nonzero_div-size
-nonzero_div-size c = omega (arith, c.power_of_ten.ensures.1)
 
 pub write_whole-point-requires : goal.write_whole-point-requires
 write_whole-point-requires c = omega (arith, c.write_minus-whole.ensures.upper_bound)
@@ -15,7 +10,7 @@ write_whole-point-requires c = omega (arith, c.write_minus-whole.ensures.upper_b
 pub write_decimals-requires : goal.write_decimals-requires
 write_decimals-requires c = (
   omega (arith, c.write_whole-point.ensures.upper_bound, c.write_minus-whole.ensures.upper_bound),
-  omega (arith, c.lesser-held.ensures),
+  omega (arith, c.min-held.ensures),
 )
 
 pub returns : goal.returns
@@ -24,8 +19,11 @@ returns c =
     let places = c.write_decimals.ensures in
     let whole = c.write_whole-point.ensures in record {
       wrote =
-          figure_wrote args.has_commas args.is_negative args.size args.places c.lesser-held.result
-          c.power_of_ten.result c.write_minus-whole.ensures.wrote whole.wrote places.wrote c.power_of_ten.ensures.0
-          c.lesser-held.ensures;
+          figure_wrote args.has_commas args.is_negative args.size args.places c.min-held.result
+          c.pow.result c.write_minus-whole.ensures.wrote whole.wrote places.wrote c.pow.ensures
+          c.min-held.ensures;
       upper_bound = omega (arith, places.upper_bound, whole.upper_bound, c.write_minus-whole.ensures.upper_bound);
     }
+
+pub nonzero_div-size : goal.nonzero_div-size
+nonzero_div-size c = omega (arith, one-le-pow c.min-held.result 10 (omega arith))

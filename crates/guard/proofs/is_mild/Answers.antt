@@ -1,14 +1,15 @@
--- The widened reading and the limit are compared as the whole numbers that they are. Assumes nothing.
-use lib.Signed.{lt_z}
+-- Both sides are read back as the whole numbers that they are. Assumes nothing.
 use lib.IntN.{pos, ◌+ℤ◌, ◌*ℤ◌}
-use mir.Syntax.{w32}
-use borrow.Author.Rules.{sfits_of}
-use Rattle.signed.proofs.Compared.{at}
-use Rattle.guard.proofs.Told.{told}
+use mathlib.Core.Path.{◌≡◌}
+use mir.Syntax.{w16, w32}
+use mir.Val.{SFits, to_z, of_z}
+use Rattle.std.proofs.Common.{arith, rules}
+use Rattle.std.proofs.lemmas.Int.{ints}
 use Rattle.guard.proofs.is_mild.Goals as goal
 
 pub returns : goal.returns
 returns c =
-    at lt_z {w = w32} (told (λ z. pos 10 *ℤ z +ℤ pos 50) c.args.settings.r320
-    (sfits_of c.struct_told-1.given.1.1.1.1.1.1.1.1.0.1) c.mild_limit.ensures)
-    (told (λ z. z) _ c.ranges.t c.wide.ensures) (sfits_of c.mild_limit.type_inv) (sfits_of c.wide.type_inv)
+    let small : SFits w16 c.args.settings.r320 = search rules in
+    let limit : to_z w32 (of_z w32 (to_z w32 (of_z w32 (pos 10 *ℤ to_z w32 (of_z w32 c.from.result))) +ℤ pos 50))
+    ≡ pos 10 *ℤ c.args.settings.r320 +ℤ pos 50 = omega (arith, ints) in
+    rw limit (grind (arith, ints))

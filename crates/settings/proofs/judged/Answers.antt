@@ -6,8 +6,7 @@ use Prim.Native.Nat.{ℕ, ◌+◌, ◌-◌, ◌≤◌}
 use native.Mathlib.Omega.{arith}
 use Rattle.refusals.specs.declared.Refusal.{Refusal}
 use Rattle.refusals.specs.declared.Refusal.TheVariants.{OutOfRange, OutOfOrder}
-use Rattle.refusals.specs.declared.Outcome.TheVariants.{Done, Refused}
-use Rattle.refusals.specs.Refusals.{first}
+use Rattle.refusals.specs.Refusals.{Done, Refused, first}
 use Rattle.settings.specs.Settings.{registers, up_from, judged_of, ordered, settings_of}
 use Rattle.settings.proofs.Hundred.{fits_by, range_row, on_from, tested}
 use borrow.Author.Rules.{rules}

@@ -1,12 +1,6 @@
--- Each turn notes the tick at one kind more. Assumes nothing.
-use mathlib.Core.Path.{◌≡◌}
-use Prim.Native.Nat.{◌-◌, ◌≤◌}
-use lib.ListN.{length}
+-- Each kind in turn, by its bit. Assumes nothing.
 use Rattle.story.proofs.Loops.{Noting}
 use Rattle.story.proofs.noted.Given as goal
 
-abbrev pub invariant-loop-i : goal.invariant-loop-i
-invariant-loop-i l = (l.i ≤ 12) × (length l.initial.all ≡ 12) × Noting l.initial.all l.bits l.tick l.all l.rest l.i
-
-abbrev pub decreases-loop-i : goal.decreases-loop-i
-decreases-loop-i l = 12 - l.i
+abbrev pub invariant-loop-spells : goal.invariant-loop-spells
+invariant-loop-spells l = Noting l.initial.spells-items l.bits l.tick l.spells-items l.rest l.spells-index

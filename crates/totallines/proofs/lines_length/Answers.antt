@@ -1,16 +1,11 @@
 -- Each turn counts the bytes of one line more. Assumes nothing.
 use native.Mathlib.Omega.{arith}
-use lib.Seq.{take_all}
 use Rattle.text.proofs.Writing.{each_long}
 use Rattle.totallines.specs.TotalLines.{line_of}
-use borrow.Author.Rules.{rules}
 use Rattle.totallines.proofs.lines_length.Goals as goal
 
-pub loop-i-preserved : goal.loop-i-preserved
-loop-i-preserved c =
-    let loop = c.loop-i in
-    let more = each_long line_of c.args.values.now loop.i (omega arith) in
-    (search rules, omega (arith, c.line_length-all.ensures.0), omega (arith, c.line_length-all.ensures.1))
-
-pub returns : goal.returns
-returns c = rw (take_all c.loop-i.i c.args.values.now (omega arith)) at c.loop-i.invariant.1
+pub loop-value-preserved : goal.loop-value-preserved
+loop-value-preserved c =
+    let loop = c.loop-value in
+    let more = each_long line_of c.args.values.now loop.value-index (omega arith) in
+    (omega (arith, c.line_length-all.ensures.0), omega (arith, c.line_length-all.ensures.1))

@@ -17,5 +17,5 @@ put_values-requires c = rw length-take (omega arith)
 
 pub returns : goal.returns
 returns c =
-    told_put c.args.billed.outcome _ _ _ _ _ c.told_count-count.ensures.0 c.number.ensures
+    told_put c.args.billed.outcome _ _ _ _ _ c.told_count-count.ensures.0 c.number_of.ensures
     c.put_values.ensures

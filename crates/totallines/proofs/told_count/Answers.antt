@@ -2,8 +2,8 @@
 use borrow.Author.Rules.{rules}
 use Rattle.totallines.proofs.told_count.Goals as goal
 
-pub returns-in-Done : goal.returns-in-Done
-returns-in-Done c = (rw c.in-Done.is, search rules)
+pub returns-in-Ok : goal.returns-in-Ok
+returns-in-Ok c = (rw c.in-Ok.is, search rules)
 
-pub returns-in-Refused : goal.returns-in-Refused
-returns-in-Refused c = (rw c.in-Refused.is, search rules)
+pub returns-in-Err : goal.returns-in-Err
+returns-in-Err c = (rw c.in-Err.is, search rules)

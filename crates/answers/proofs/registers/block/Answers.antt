@@ -1,8 +1,7 @@
 -- By where the block begins: each range has its row. Assumes nothing.
 use mathlib.Core.Path.{◌∙◌}
 use native.Mathlib.Omega.{arith}
-use Rattle.answers.proofs.Blocks.{lies, block_of_readings, block_of_statistics, block_of_settings}
-use borrow.Author.Rules.{rules}
+use Rattle.answers.proofs.Blocks.{block_of_readings, block_of_statistics, block_of_settings}
 use Rattle.answers.proofs.registers.block.Goals as goal
 
 pub returns-then-at-lt100 : goal.returns-then-at-lt100
@@ -14,12 +13,6 @@ pub returns-then-at-lt300 : goal.returns-then-at-lt300
 returns-then-at-lt300 c =
     let a = c.args in
     c.registers-then-at-lt300.ensures ∙ block_of_statistics a.pack a.hire a.at a.count c.requires (omega arith) (omega arith)
-
-pub overflow_cast-at-2 : goal.overflow_cast-at-2
-overflow_cast-at-2 c =
-    let a = c.args in
-    let m = (lies a.at a.count c.requires).1.1 (omega arith) in
-    search rules
 
 pub returns : goal.returns
 returns c =

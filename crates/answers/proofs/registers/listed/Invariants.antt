@@ -1,11 +1,7 @@
 -- The rows of the three ranges, and then each address and its register, looked up in them. Assumes nothing.
-use Prim.Native.Nat.{◌-◌}
 use Rattle.laws.proofs.Rows.{Filling}
 use Rattle.answers.specs.Making.{looked_up, listed_by}
 use Rattle.answers.proofs.registers.listed.Given as goal
 
 abbrev pub invariant-loop-i : goal.invariant-loop-i
 invariant-loop-i l = Filling 127 (listed_by (looked_up l.readings l.statistics l.settings) l.request) l.count l.i l.words
-
-abbrev pub decreases-loop-i : goal.decreases-loop-i
-decreases-loop-i l = l.count - l.i

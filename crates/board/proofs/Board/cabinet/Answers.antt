@@ -1,12 +1,11 @@
 -- A board that is none is refused and writes nothing; else the slice is filled with what its readings measure. Assumes nothing.
 use mathlib.Core.List.{List}
-use mathlib.Core.Path.{◌≡◌, refl, ap}
+use mathlib.Core.Path.{◌≡◌, refl, ap, ◌∙◌}
 use mathlib.Core.Bool.{true, false, not}
 use Prim.Native.Nat.{ℕ}
 use lib.ListN.{length}
 use Rattle.refusals.specs.declared.Refusal.TheVariants.{NoBoard}
-use Rattle.refusals.specs.declared.Outcome.{Outcome}
-use Rattle.refusals.specs.declared.Outcome.TheVariants.{Refused}
+use Rattle.refusals.specs.Refusals.{Outcome, Refused}
 use Rattle.cabinet.specs.Cabinet.{Fills}
 use Rattle.board.specs.declared.Answer.{Answer}
 use Rattle.board.specs.declared.Board.{Board}
@@ -29,12 +28,12 @@ module _ {b : Board} {before : List ℕ} {o : Outcome} {r : Answer} where
   unfolding shape
   unfilled = writes_nothing b (cabinet (length before)) refl
 
-pub returns-then-not-is_done : goal.returns-then-not-is_done
-returns-then-not-is_done c =
-    let (none-usable, is) = no_board _ c.outcome-outcome.ensures c.is_done.ensures (ap not c.if-not-is_done.true) in
+pub returns-then-is_err : goal.returns-then-is_err
+returns-then-is_err c =
+    let (none-usable, is) = no_board _ c.outcome-outcome.ensures (c.is_err.ensures.negation ∙ ap not c.if-is_err.true) in
     unfilled none-usable is c.with_outcome.ensures
 
 pub returns : goal.returns
 returns c =
-    let (some, is) = some_board _ c.outcome-outcome.ensures c.is_done.ensures (ap not c.if-not-is_done.false) in
+    let (some, is) = some_board _ c.outcome-outcome.ensures (c.is_err.ensures.negation ∙ ap not c.if-is_err.false) in
     filled some (rw c.measured.ensures at c.fill-filled.ensures) c.with_outcome-2.ensures

@@ -1,4 +1,5 @@
 -- By cases on what is asked. Assumes nothing.
+use Rattle.std.specs.Prelude.{Ok}
 use mathlib.Core.Path.{◌≡◌, ap, ◌∙◌}
 use Prim.Native.Nat.{ℕ}
 use Rattle.settings.specs.declared.Settings.{Settings}
@@ -14,13 +15,9 @@ use Rattle.board.proofs.Board.changed.Goals as goal
 
 -- a write leaves the settings that then stand
 a_write : (b : Board) {q : Request} {f : Form} {n : ℕ} {st : Settings} {r : Board} → q ≡ request.Write f n → r ≡ with_settings b st
-    → Changed b q st r
+    → Changed b (Ok q) st r
 unfolding changed_by asked_settings
 a_write b e p = record { changed = λ s stands. rw e (p ∙ ap (with_settings b) (rw e at stands)) }
-
-pub returns-in-Refused : goal.returns-in-Refused
-unfolding changed_by
-returns-in-Refused c = record { changed = λ s stands. rw c.in-Refused.is }
 
 pub returns-in-ClearEvents : goal.returns-in-ClearEvents
 unfolding changed_by

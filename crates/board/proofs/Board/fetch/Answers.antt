@@ -7,9 +7,8 @@ use native.Mathlib.Omega.{arith}
 use lib.Dec.{ltb}
 use lib.ListN.{length}
 use Rattle.refusals.specs.declared.Refusal.TheVariants.{NoRoom, NoBoard}
-use Rattle.refusals.specs.declared.Outcome.{Outcome}
-use Rattle.refusals.specs.declared.Outcome.TheVariants.{Done, Refused}
-use Rattle.refusals.specs.Refusals.{is_done, first}
+use Rattle.refusals.specs.Refusals.{Outcome, Done, Refused, is_done, first}
+use Rattle.std.specs.Prelude.{Ok, Err}
 use Rattle.refusals.proofs.Rows.{refused_not, done_is, off, and_then, first_append}
 use Rattle.replies.specs.Replies.{padded}
 use Rattle.replies.proofs.Writing.{whole}
@@ -22,7 +21,6 @@ use Rattle.board.specs.Changes.{changed_by}
 use Rattle.receiver.proofs.Held.{front, within, front_length}
 use Rattle.board.specs.Calls.{fetch, frame_rows, shape, lost, outcome_of, board_by, outcome_in}
 use Rattle.board.specs.Promises.{ready_rows, request_outcome, Readied, Leaves, Answered}
-use Rattle.board.proofs.Shape.{not_true_false, not_false_true}
 use Rattle.board.proofs.Asked.{by_table, request_lost, ready_blank, blank, replied}
 use Rattle.board.proofs.Board.fetch.Goals as goal
 
@@ -42,22 +40,22 @@ gone b room = go (request_outcome b (held_in b)) (request_lost b (held_in b))
     changed = changed_by b (held_in b) (request_of (held_in b))
 
     go : (o : Outcome) → ((o ≡ Done → ⊥) → lost o ≡ true) → let_go (cond (is_done o) changed b) ≡ board_by b (shape (fetch room)) o
-    go Done l = refl
-    go (Refused refusal) l = rw (l (refused_not refusal)) refl
+    go (Ok done) l = refl
+    go (Err refusal) l = rw (l (refused_not refusal)) refl
 
-module _ (b : Board) {before after : List ℕ} {o : Outcome} {t : Bool} (told : Readied b (length before) o) (tested : t ≡ is_done o) where
-  unanswered : {r : Answer} → not t ≡ true → r ≡ record { outcome = o; board = b } → after ≡ padded (length before) []
+module _ (b : Board) {before after : List ℕ} {o : Outcome} (told : Readied b (length before) o) where
+  unanswered : {r : Answer} → is_done o ≡ false → r ≡ record { outcome = o; board = b } → after ≡ padded (length before) []
       → Leaves b (fetch (length before)) before r after
   unfolding shape
   unanswered f p q =
       blank {c = fetch (length before)} (first (ready_rows b (length before))) refl (fetched b (length before)) told.outcome
-      (ready_blank b (length before) (sym (ap is_done told.outcome) ∙ sym tested ∙ not_true_false t f)) p q
+      (ready_blank b (length before) (sym (ap is_done told.outcome) ∙ f)) p q
 
-  answers : {a r : Answer} {x : Board} → not t ≡ false → Answered b (held_in b) before a after → x ≡ let_go a.board
+  answers : {a r : Answer} {x : Board} → is_done o ≡ true → Answered b (held_in b) before a after → x ≡ let_go a.board
       → r ≡ record { outcome = a.outcome; board = x } → Leaves b (fetch (length before)) before r after
   unfolding shape
   answers {a} {r} {x} f g e p =
-      let d : first (ready_rows b (length before)) ≡ Done = sym told.outcome ∙ done_is o (sym tested ∙ not_false_true t f) in
+      let d : first (ready_rows b (length before)) ≡ Done = sym told.outcome ∙ done_is o f in
       let room = (off NoRoom (ltb (length before) 259) _ (off NoBoard (not (usable b)) _ d).1).0 in
       replied {c = fetch (length before)} (first (ready_rows b (length before))) refl (fetched b (length before)) d room
       (e ∙ ap (λ (y : Answer). let_go y.board) g.answer ∙ gone b (length before)) (p ∙ ap (λ (y : Answer). record {
@@ -66,9 +64,9 @@ module _ (b : Board) {before after : List ℕ} {o : Outcome} {t : Bool} (told : 
         board = x;
       }) g.answer) g.reply
 
-pub returns-then-not-is_done : goal.returns-then-not-is_done
-returns-then-not-is_done c =
-    unanswered _ c.ready-outcome.ensures c.is_done.ensures (ap not c.if-not-is_done.true) c.with_outcome.ensures
+pub returns-then-is_err : goal.returns-then-is_err
+returns-then-is_err c =
+    unanswered _ c.ready-outcome.ensures (c.is_err.ensures.negation ∙ ap not c.if-is_err.true) c.with_outcome.ensures
     (whole c.zero_from.ensures (omega arith))
 
 pub slice_bounds-bytes-end : goal.slice_bounds-bytes-end
@@ -79,7 +77,7 @@ slice_bounds-answered-end c = front_length c.args.self.hire.receiver c.length-co
 
 pub returns : goal.returns
 returns c =
-    answers _ c.ready-outcome.ensures c.is_done.ensures (ap not c.if-not-is_done.false)
+    answers _ c.ready-outcome.ensures (c.is_err.ensures.negation ∙ ap not c.if-is_err.false)
     (rw (front c.args.self.hire.receiver c.length-count.result c.length-count.ensures.0) at c.answered-answer.ensures)
     (c.with_receiver.ensures ∙ ap (with_receiver c.answered-answer.result.board) c.none.ensures)
     c.with_outcome-2.ensures

@@ -7,9 +7,7 @@ use native.Mathlib.Omega.{arith}
 use lib.Dec.{ltb}
 use lib.ListN.{length}
 use Rattle.refusals.specs.declared.Refusal.TheVariants.{NoRoom, NoBoard}
-use Rattle.refusals.specs.declared.Outcome.{Outcome}
-use Rattle.refusals.specs.declared.Outcome.TheVariants.{Done}
-use Rattle.refusals.specs.Refusals.{is_done, first}
+use Rattle.refusals.specs.Refusals.{Outcome, Done, is_done, first}
 use Rattle.refusals.proofs.Rows.{done_is, off, and_then, first_append}
 use Rattle.replies.specs.Replies.{padded}
 use Rattle.replies.proofs.Writing.{whole}
@@ -21,7 +19,7 @@ use Rattle.board.specs.Line.{let_go}
 use Rattle.board.specs.Changes.{changed_by}
 use Rattle.board.specs.Calls.{frame, frame_rows, shape, outcome_of, board_by, outcome_in}
 use Rattle.board.specs.Promises.{room_rows, request_outcome, Roomed, Leaves, Answered}
-use Rattle.board.proofs.Shape.{holds_on, not_true_false, not_false_true}
+use Rattle.board.proofs.Shape.{holds_on}
 use Rattle.board.proofs.Asked.{by_table, room_blank, blank, replied}
 use Rattle.board.proofs.Board.frame.Goals as goal
 
@@ -36,27 +34,27 @@ unfolding shape board_by
 changes b s room o =
     ap (λ (t : Bool). cond (is_done o) (changed_by b s (request_of s)) (cond t (let_go b) b)) (sym (holds_on b (shape (frame s room)) o refl))
 
-module _ (b : Board) (s : List ℕ) {before after : List ℕ} {r : Answer} {o : Outcome} {t : Bool} (told : Roomed b (length before) o)
-    (tested : t ≡ is_done o) where
-  unanswered : not t ≡ true → r ≡ record { outcome = o; board = b } → after ≡ padded (length before) []
-      → Leaves b (frame s (length before)) before r after
-  unfolding shape
-  unanswered f p q =
-      blank {c = frame s (length before)} (first (room_rows b (length before))) refl (framed b s (length before)) told.outcome
-      (room_blank b (length before) (sym (ap is_done told.outcome) ∙ sym tested ∙ not_true_false t f)) p q
+module _ (b : Board) (s : List ℕ) {before after : List ℕ} {r : Answer} {o : Outcome} (told : Roomed b (length before) o)
+  where
+    unanswered : is_done o ≡ false → r ≡ record { outcome = o; board = b } → after ≡ padded (length before) []
+        → Leaves b (frame s (length before)) before r after
+    unfolding shape
+    unanswered f p q =
+        blank {c = frame s (length before)} (first (room_rows b (length before))) refl (framed b s (length before)) told.outcome
+        (room_blank b (length before) (sym (ap is_done told.outcome) ∙ f)) p q
 
-  answers : not t ≡ false → Answered b s before r after → Leaves b (frame s (length before)) before r after
-  unfolding shape
-  answers f a =
-      let d : first (room_rows b (length before)) ≡ Done = sym told.outcome ∙ done_is o (sym tested ∙ not_false_true t f) in
-      let room = (off NoRoom (ltb (length before) 259) [] (off NoBoard (not (usable b)) _ d).1).0 in
-      replied {c = frame s (length before)} (first (room_rows b (length before))) refl (framed b s (length before)) d room
-      (changes b s (length before) (request_outcome b s)) a.answer a.reply
+    answers : is_done o ≡ true → Answered b s before r after → Leaves b (frame s (length before)) before r after
+    unfolding shape
+    answers f a =
+        let d : first (room_rows b (length before)) ≡ Done = sym told.outcome ∙ done_is o f in
+        let room = (off NoRoom (ltb (length before) 259) [] (off NoBoard (not (usable b)) _ d).1).0 in
+        replied {c = frame s (length before)} (first (room_rows b (length before))) refl (framed b s (length before)) d room
+        (changes b s (length before) (request_outcome b s)) a.answer a.reply
 
-pub returns-then-not-is_done : goal.returns-then-not-is_done
-returns-then-not-is_done c =
-    unanswered _ _ c.has_room-outcome.ensures c.is_done.ensures (ap not c.if-not-is_done.true) c.with_outcome.ensures
+pub returns-then-is_err : goal.returns-then-is_err
+returns-then-is_err c =
+    unanswered _ _ c.has_room-outcome.ensures (c.is_err.ensures.negation ∙ ap not c.if-is_err.true) c.with_outcome.ensures
     (whole c.zero_from.ensures (omega arith))
 
 pub returns : goal.returns
-returns c = answers _ _ c.has_room-outcome.ensures c.is_done.ensures (ap not c.if-not-is_done.false) c.answered.ensures
+returns c = answers _ _ c.has_room-outcome.ensures (c.is_err.ensures.negation ∙ ap not c.if-is_err.false) c.answered.ensures

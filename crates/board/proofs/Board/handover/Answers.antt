@@ -6,9 +6,7 @@ use mathlib.Core.Path.{◌≡◌, refl, sym, ap, ◌∙◌}
 use Prim.Native.Nat.{ℕ}
 use lib.ListN.{length}
 use Rattle.refusals.specs.declared.Refusal.TheVariants.{NoBoard}
-use Rattle.refusals.specs.declared.Outcome.{Outcome}
-use Rattle.refusals.specs.declared.Outcome.TheVariants.{Refused}
-use Rattle.refusals.specs.Refusals.{is_done}
+use Rattle.refusals.specs.Refusals.{Outcome, Refused, is_done}
 use Rattle.refusals.proofs.Rows.{done_is}
 use Rattle.desk.specs.Desk.{Puts}
 use Rattle.board.specs.declared.Answer.{Answer}
@@ -17,7 +15,8 @@ use Rattle.board.specs.State.{usable}
 use Rattle.board.specs.Handover.{record_for, handed_hire, handed_over}
 use Rattle.board.specs.Promises.{Leaves}
 use Rattle.board.specs.Calls.{handover, shape, board_by}
-use Rattle.board.proofs.Shape.{not_true_false, not_false_true, no_board, some_board, kept, holds_on, writes, writes_nothing}
+use borrow.Author.Tests.{not-true, not-false}
+use Rattle.board.proofs.Shape.{no_board, some_board, kept, holds_on, writes, writes_nothing}
 use Rattle.board.proofs.Board.handover.Goals as goal
 
 module _ {b : Board} {number : ℕ} {before after : List ℕ} {o : Outcome} {r : Answer} where
@@ -44,20 +43,20 @@ none-handed : {b : Board} {number : ℕ} {before : List ℕ} {o : Outcome} {r : 
 unfolding shape
 none-handed {b} {number} {before} = writes_nothing b (handover number (length before)) refl
 
-pub returns-then-not-is_done : goal.returns-then-not-is_done
-returns-then-not-is_done c =
-    let (none-usable, is) = no_board _ c.outcome-outcome.ensures c.is_done.ensures (ap not c.if-not-is_done.true) in
+pub returns-then-is_err : goal.returns-then-is_err
+returns-then-is_err c =
+    let (none-usable, is) = no_board _ c.outcome-outcome.ensures (c.is_err.ensures.negation ∙ ap not c.if-is_err.true) in
     none-handed none-usable is c.with_outcome.ensures
 
 pub returns-then-not-is_put : goal.returns-then-not-is_put
 returns-then-not-is_put c =
-    let (some, is) = some_board _ c.outcome-outcome.ensures c.is_done.ensures (ap not c.if-not-is_done.false) in
+    let (some, is) = some_board _ c.outcome-outcome.ensures (c.is_err.ensures.negation ∙ ap not c.if-is_err.false) in
     not-handed some (rw c.ended.ensures at c.put-put.ensures)
-    (sym c.is_done-is_put.ensures ∙ not_true_false _ (ap not c.if-not-is_put.true)) c.with_outcome-then-not-is_put.ensures
+    (sym c.is_ok-is_put.ensures.value ∙ not-true _ (ap not c.if-not-is_put.true)) c.with_outcome-then-not-is_put.ensures
 
 pub returns : goal.returns
 returns c =
-    let (some, is) = some_board _ c.outcome-outcome.ensures c.is_done.ensures (ap not c.if-not-is_done.false) in
+    let (some, is) = some_board _ c.outcome-outcome.ensures (c.is_err.ensures.negation ∙ ap not c.if-is_err.false) in
     handed some (rw c.ended.ensures at c.put-put.ensures)
-    (sym c.is_done-is_put.ensures ∙ not_false_true _ (ap not c.if-not-is_put.false))
+    (sym c.is_ok-is_put.ensures.value ∙ not-false _ (ap not c.if-not-is_put.false))
     (rw (c.with_hire.ensures, c.new-hire.ensures) at c.with_outcome-2.ensures)

@@ -1,15 +1,16 @@
 -- A board that is none is refused and writes nothing; else the store is as the keeping of its settings leaves it. Assumes nothing.
-use mathlib.Core.Path.{◌≡◌, refl, sym, ap, ◌∙◌}
+use mathlib.Core.Path.{◌≡◌, refl, sym, ap, ◌∙◌, subst⁻¹}
 use mathlib.Core.Bool.{true, false, cond, not}
 use mathlib.Core.List.{List}
 use Prim.Native.Nat.{ℕ}
 use Rattle.refusals.specs.declared.Refusal.TheVariants.{NoBoard}
-use Rattle.refusals.specs.declared.Outcome.{Outcome}
-use Rattle.refusals.specs.declared.Outcome.TheVariants.{Refused}
-use Rattle.refusals.specs.Refusals.{is_done}
+use Rattle.refusals.specs.Refusals.{Outcome, Done, Refused, is_done, giving, come_to, first}
+use Rattle.refusals.specs.declared.Refusal.{Refusal}
+use Rattle.refusals.proofs.Rows.{come_to_giving}
+use Rattle.std.specs.Prelude.{Result, Ok, Err}
+use Rattle.std.specs.Result.{result_unwrap_or}
 use Rattle.editions.specs.Editions.{next_edition}
-use Rattle.classes.specs.declared.Kept.{Kept}
-use Rattle.classes.specs.Store.{editions_in, kept_store, Keeps}
+use Rattle.classes.specs.Store.{editions_in, keep_rows, kept_store, Keeps}
 use Rattle.board.specs.declared.Board.{Board}
 use Rattle.board.specs.declared.Stored.{Stored}
 use Rattle.board.specs.State.{usable}
@@ -33,11 +34,26 @@ stored-by b store o e written =
           ∙ sym (left_in_lem b (keep store) (kept_store store b.pack.settings) store refl);
     }
 
-stored : {b : Board} {store after : List ℕ} {k : Kept} → usable b ≡ true → Keeps b.pack.settings store k after
-    → Stores b store (record { outcome = k.outcome; edition = k.edition; board = b }) after
-unfolding shape
-stored {b} {store} {after} {k} some keeps =
-    rw keeps.gives (stored-by b store _ (sym (by_rows b (shape (keep store)) some)) keeps.store)
+module _ (b : Board) {store after : List ℕ} (some : usable b ≡ true) where
+  rows : {r : Result ℕ Refusal} → Keeps b.pack.settings store r after → first (keep_rows store) ≡ come_to r
+  rows keeps = sym (come_to_giving _ _) ∙ sym (ap come_to keeps.gives)
+
+  stored : {edition : ℕ} → Keeps b.pack.settings store (Ok edition) after
+      → Stores b store (record { outcome = Done; edition = edition; board = b }) after
+  unfolding shape
+  stored {edition} keeps =
+      subst⁻¹ (λ (n : ℕ). Stores b store (record { outcome = Done; edition = n; board = b }) after)
+      (ap (λ (r : Result ℕ Refusal). result_unwrap_or r edition)
+      (keeps.gives ∙ ap (λ (o : Outcome). giving o (next_edition (editions_in store))) (rows keeps)))
+      (stored-by b store Done (sym (rows keeps) ∙ sym (by_rows b (shape (keep store)) some))
+      (keeps.store ∙ ap (λ (o : Outcome). cond (is_done o) (kept_store store b.pack.settings) store) (rows keeps)))
+
+  refused : {refusal : Refusal} → Keeps b.pack.settings store (Err refusal) after
+      → Stores b store (record { outcome = Refused refusal; edition = 0; board = b }) after
+  unfolding shape
+  refused keeps =
+      stored-by b store _ (sym (rows keeps) ∙ sym (by_rows b (shape (keep store)) some))
+      (keeps.store ∙ ap (λ (o : Outcome). cond (is_done o) (kept_store store b.pack.settings) store) (rows keeps))
 
 unstored : {b : Board} {store : List ℕ} {o : Outcome} → usable b ≡ false → o ≡ Refused NoBoard
     → Stores b store (record { outcome = o; edition = 0; board = b }) store
@@ -45,12 +61,17 @@ unfolding shape
 unstored {b} {store} none-usable is =
     rw is (stored-by b store (Refused NoBoard) (sym (none_21 b (shape (keep store)) none-usable)) refl)
 
-pub returns-then-not-is_done : goal.returns-then-not-is_done
-returns-then-not-is_done c =
-    let (none-usable, is) = no_board _ c.outcome-outcome.ensures c.is_done.ensures (ap not c.if-not-is_done.true) in
+pub returns-then-is_err : goal.returns-then-is_err
+returns-then-is_err c =
+    let (none-usable, is) = no_board _ c.outcome-outcome.ensures (c.is_err.ensures.negation ∙ ap not c.if-is_err.true) in
     unstored none-usable is
 
-pub returns : goal.returns
-returns c =
-    let (some, is) = some_board _ c.outcome-outcome.ensures c.is_done.ensures (ap not c.if-not-is_done.false) in
-    stored some c.keep-kept.ensures
+pub returns-in-Ok : goal.returns-in-Ok
+returns-in-Ok c =
+    let (some, is) = some_board _ c.outcome-outcome.ensures (c.is_err.ensures.negation ∙ ap not c.if-is_err.false) in
+    stored _ some (rw c.in-Ok.is at c.keep.ensures)
+
+pub returns-in-Err : goal.returns-in-Err
+returns-in-Err c =
+    let (some, is) = some_board _ c.outcome-outcome.ensures (c.is_err.ensures.negation ∙ ap not c.if-is_err.false) in
+    refused _ some (rw c.in-Err.is at c.keep.ensures)

@@ -1,12 +1,10 @@
 -- A board that is none takes nothing; else the receiver takes what it takes. Assumes nothing.
-use mathlib.Core.Path.{◌≡◌, refl, sym, ap}
+use mathlib.Core.Path.{◌≡◌, refl, sym, ap, ◌∙◌}
 use mathlib.Core.Bool.{Bool, true, false, cond, not}
 use mathlib.Core.List.{List, [], ◌∷◌}
 use Prim.Native.Nat.{ℕ}
 use Rattle.refusals.specs.declared.Refusal.TheVariants.{FrameHeld, NoBoard}
-use Rattle.refusals.specs.declared.Outcome.{Outcome}
-use Rattle.refusals.specs.declared.Outcome.TheVariants.{Refused}
-use Rattle.refusals.specs.Refusals.{is_done, first}
+use Rattle.refusals.specs.Refusals.{Outcome, Refused, is_done, first}
 use Rattle.receiver.specs.declared.Receiver.{Receiver}
 use Rattle.receiver.specs.Receiver.{is_held, taken, offered_by, offered_of}
 use Rattle.board.specs.declared.Board.{Board}
@@ -52,12 +50,12 @@ took b bytes u = rw u (go (is_held b.hire.receiver))
     go true = refl
     go false = refl
 
-pub returns-then-not-is_done : goal.returns-then-not-is_done
-returns-then-not-is_done c =
-    let (none-usable, is) = no_board _ c.outcome-outcome.ensures c.is_done.ensures (ap not c.if-not-is_done.true) in
+pub returns-then-is_err : goal.returns-then-is_err
+returns-then-is_err c =
+    let (none-usable, is) = no_board _ c.outcome-outcome.ensures (c.is_err.ensures.negation ∙ ap not c.if-is_err.true) in
     rw is (none _ _ none-usable)
 
 pub returns : goal.returns
 returns c =
-    let (some, is) = some_board _ c.outcome-outcome.ensures c.is_done.ensures (ap not c.if-not-is_done.false) in
+    let (some, is) = some_board _ c.outcome-outcome.ensures (c.is_err.ensures.negation ∙ ap not c.if-is_err.false) in
     rw (c.with_receiver.ensures, c.offer-offered.ensures) (took _ _ some)

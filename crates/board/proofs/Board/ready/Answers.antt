@@ -1,54 +1,31 @@
 -- No board or no room, then no frame held. Assumes nothing.
-use mathlib.Core.Path.{◌≡◌, refl, sym, ap, ◌∙◌}
-use mathlib.Core.Bool.{Bool, true, false, not, false≢true}
 use mathlib.Core.List.{[], ◌∷◌}
-use Prim.Native.Nat.{ℕ}
-use lib.Dec.{ltb}
-use Rattle.refusals.specs.declared.Refusal.TheVariants.{NoRoom, NoFrameHeld, NoBoard}
-use Rattle.refusals.specs.declared.Outcome.{Outcome}
-use Rattle.refusals.specs.declared.Outcome.TheVariants.{Done, Refused}
-use Rattle.refusals.specs.Refusals.{is_done, first}
-use Rattle.board.specs.declared.Board.{Board}
-use Rattle.board.specs.State.{usable}
-use Rattle.board.specs.Line.{holds}
-use Rattle.board.specs.Promises.{Roomed, Readied}
+use mathlib.Core.Bool.{Bool, not, cond}
+use mathlib.Core.Path.{◌≡◌, sym, ap, ◌∙◌}
+use Rattle.std.proofs.lemmas.Result.{err_from_is_err_and}
+use Rattle.refusals.specs.Refusals.{Done, Refused, first}
+use Rattle.refusals.specs.declared.Refusal.TheVariants.{NoBoard, NoRoom, NoFrameHeld}
+use Rattle.refusals.proofs.Rows.{refused_part, done_part}
 use Rattle.board.proofs.Board.ready.Goals as goal
 
-module _ {b : Board} {room : ℕ} {o : Outcome} {t : Bool} (told : Roomed b room o) (tested : t ≡ is_done o) where
-  by : (u v h : Bool) → o ≡ first ((NoBoard, u) ∷ (NoRoom, v) ∷ []) → not t ≡ true
-      → o ≡ first ((NoBoard, u) ∷ (NoRoom, v) ∷ (NoFrameHeld, h) ∷ [])
-  unfolding first
-  by true v h e f = e
-  by false true h e f = e
-  by false false h e f = absurd (false≢true (ap not (sym (tested ∙ ap is_done e)) ∙ f))
+-- with a board and room the held frame decides
+by_frame : (b room held : Bool) {t : Bool} → held ≡ t → Done ≡ first ((NoBoard, b) ∷ (NoRoom, room) ∷ [])
+    → cond (not t) (Refused NoFrameHeld) Done ≡ first ((NoBoard, b) ∷ (NoRoom, room) ∷ (NoFrameHeld, not held) ∷ [])
+unfolding first
+by_frame b room held e done =
+    ap (λ (t : Bool). cond (not t) (Refused NoFrameHeld) Done) (sym e)
+    ∙ done_part ((NoBoard, b) ∷ (NoRoom, room) ∷ []) ((NoFrameHeld, not held) ∷ []) done
 
-  early : not t ≡ true → Readied b room o
-  early f = record { outcome = by (not (usable b)) (ltb room 259) (not (holds b)) told.outcome f }
+pub returns-in_err-has_room : goal.returns-in_err-has_room
+returns-in_err-has_room c =
+    let p = err_from_is_err_and c.from_residual.result c.from_residual.ensures.1 in
+    record { outcome = rw (p.1, p.2) (refused_part (_ ∷ _ ∷ []) _ c.in_err-has_room.ensures.outcome) }
 
-  on : (u v h : Bool) → o ≡ first ((NoBoard, u) ∷ (NoRoom, v) ∷ []) → not t ≡ false
-      → first ((NoBoard, u) ∷ (NoRoom, v) ∷ (NoFrameHeld, h) ∷ []) ≡ first ((NoFrameHeld, h) ∷ [])
-  unfolding first
-  on true v h e f = absurd (false≢true (sym f ∙ ap not (tested ∙ ap is_done e)))
-  on false true h e f = absurd (false≢true (sym f ∙ ap not (tested ∙ ap is_done e)))
-  on false false h e f = refl
+pub returns-then-not-is_held : goal.returns-then-not-is_held
+unfolding first
+returns-then-not-is_held c =
+    record { outcome = by_frame _ _ _ (sym c.is_held.ensures.0 ∙ c.if-not-is_held.true) c.in_ok-has_room.ensures.outcome }
 
-  late : not t ≡ false → holds b ≡ true → Readied b room Done
-  unfolding first
-  late f h = record { outcome = sym (on (not (usable b)) (ltb room 259) (not (holds b)) told.outcome f ∙ rw h refl) }
-
-  none : not t ≡ false → holds b ≡ false → Readied b room (Refused NoFrameHeld)
-  unfolding first
-  none f h = record { outcome = sym (on (not (usable b)) (ltb room 259) (not (holds b)) told.outcome f ∙ rw h refl) }
-
-pub returns-then-not-is_done : goal.returns-then-not-is_done
-returns-then-not-is_done c = early c.has_room-outcome.ensures c.is_done.ensures (ap not c.if-not-is_done.true)
-
-pub returns-then-is_held : goal.returns-then-is_held
-returns-then-is_held c =
-    late c.has_room-outcome.ensures c.is_done.ensures (ap not c.if-not-is_done.false)
-    (rw (← c.is_held.ensures.0) c.if-is_held.true)
-
-pub returns-else-is_held : goal.returns-else-is_held
-returns-else-is_held c =
-    none c.has_room-outcome.ensures c.is_done.ensures (ap not c.if-not-is_done.false)
-    (rw (← c.is_held.ensures.0) c.if-is_held.false)
+pub returns : goal.returns
+unfolding first
+returns c = record { outcome = by_frame _ _ _ (sym c.is_held.ensures.0 ∙ c.if-not-is_held.false) c.in_ok-has_room.ensures.outcome }

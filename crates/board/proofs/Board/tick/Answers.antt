@@ -4,8 +4,7 @@ use mathlib.Core.Bool.{Bool, true, false, not, false≢true}
 use mathlib.Core.List.{List}
 use Prim.Native.Nat.{ℕ}
 use lib.ListN.{length}
-use Rattle.refusals.specs.declared.Outcome.{Outcome}
-use Rattle.refusals.specs.Refusals.{is_done}
+use Rattle.refusals.specs.Refusals.{Outcome, is_done}
 use Rattle.refusals.proofs.Rows.{done_is}
 use Rattle.readings.specs.declared.Readings.{Readings}
 use Rattle.pack.specs.Pack.{tick_outcome}
@@ -14,7 +13,7 @@ use Rattle.board.specs.declared.Board.{Board}
 use Rattle.board.specs.Tick.{ticked_of}
 use Rattle.board.specs.Promises.{Answers}
 use Rattle.board.specs.Calls.{tick, shape, outcome_of, outcome_in}
-use Rattle.board.proofs.Shape.{refused, done, holds_on, not_true_false, not_false_true}
+use Rattle.board.proofs.Shape.{refused, done, holds_on}
 use Rattle.board.proofs.Board.tick.Goals as goal
 
 module _ (b : Board) (cells : List ℕ) (rd : Readings) {o : Outcome} (e : o ≡ tick_outcome b.pack rd (length cells)) where
@@ -22,23 +21,22 @@ module _ (b : Board) (cells : List ℕ) (rd : Readings) {o : Outcome} (e : o ≡
   unfolding tick_outcome outcome_of shape
   by = e
 
-  refuses : {t : Bool} {r : Answer} → t ≡ is_done o → not t ≡ true → r ≡ record { outcome = o; board = b } → Answers b (tick cells rd) r
+  refuses : {r : Answer} → is_done o ≡ false → r ≡ record { outcome = o; board = b } → Answers b (tick cells rd) r
   unfolding shape
-  refuses {t} tested f p =
-      p ∙ refused b (tick cells rd) o by (λ z. false≢true (sym (not_true_false t f) ∙ tested ∙ ap is_done z))
+  refuses f p =
+      p ∙ refused b (tick cells rd) o by (λ z. false≢true (sym f ∙ ap is_done z))
       (holds_on b (shape (tick cells rd)) o refl)
 
-  does : {t : Bool} {r : Answer} {x : Board} → t ≡ is_done o → not t ≡ false → x ≡ ticked_of b cells rd
+  does : {r : Answer} {x : Board} → is_done o ≡ true → x ≡ ticked_of b cells rd
       → r ≡ record { outcome = o; board = x } → Answers b (tick cells rd) r
   unfolding shape
-  does {t} {x = x} tested f g p = p ∙ done b (tick cells rd) o x (done_is o (sym tested ∙ not_false_true t f)) by g
+  does {x = x} f g p = p ∙ done b (tick cells rd) o x (done_is o f) by g
 
-pub returns-then-not-is_done : goal.returns-then-not-is_done
-returns-then-not-is_done c =
-    refuses _ _ _ c.tick_outcome-outcome.ensures c.is_done.ensures
-    (ap not c.if-not-is_done.true) c.with_outcome.ensures
+pub returns-then-is_err : goal.returns-then-is_err
+returns-then-is_err c =
+    refuses _ _ _ c.tick_outcome-outcome.ensures (c.is_err.ensures.negation ∙ ap not c.if-is_err.true) c.with_outcome.ensures
 
 pub returns : goal.returns
 returns c =
-    does _ _ _ c.tick_outcome-outcome.ensures c.is_done.ensures (ap not c.if-not-is_done.false) c.ticked.ensures
+    does _ _ _ c.tick_outcome-outcome.ensures (c.is_err.ensures.negation ∙ ap not c.if-is_err.false) c.ticked.ensures
     c.with_outcome-2.ensures

@@ -14,17 +14,17 @@ unfolding first
 returns-then-slice-ne20 c = record { outcome_is = rw (ne_eqb _ _ c.if-slice-ne20.true); slice = refl }
 
 pub loop-i-init : goal.loop-i-init
-loop-i-init c = (search rules, c.if-slice-ne20.false, none_filled)
+loop-i-init c = (c.if-slice-ne20.false, none_filled)
 
 pub loop-i-preserved : goal.loop-i-preserved
 loop-i-preserved c =
-    let (within, twenty, so_far) = c.loop-i.invariant in
-    (search rules, twenty, one_filled so_far (omega arith) c.register.ensures)
+    let (twenty, so_far) = c.loop-i.invariant in
+    (twenty, one_filled so_far (omega arith) c.register.ensures)
 
 pub returns : goal.returns
 unfolding first
 returns c =
-    let (within, twenty, so_far) = c.loop-i.invariant in
+    let (twenty, so_far) = c.loop-i.invariant in
     record {
       outcome_is = ap (λ (n : ℕ). first (cabinet_rows n)) (sym twenty);
       slice = all_filled so_far (search rules) twenty;

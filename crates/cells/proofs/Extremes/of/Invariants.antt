@@ -1,12 +1,7 @@
 -- The loop gathers the lowest and the highest of the cells passed. Assumes nothing.
-use Prim.Native.Nat.{◌-◌, min, max}
-use lib.ListN.{length}
-use Rattle.laws.proofs.Folds.{Gathered, begun, next, done}
-use borrow.Author.Rules.{rules}
+use Rattle.std.proofs.Common.{min, max}
+use Rattle.laws.proofs.Folds.{Gathered}
 use Rattle.cells.proofs.Extremes.of.Given as goal
 
-abbrev pub invariant-loop-i : goal.invariant-loop-i
-invariant-loop-i l = Gathered min 65535 l.lowest l.cells l.i × Gathered max 0 l.highest l.cells l.i
-
-abbrev pub decreases-loop-i : goal.decreases-loop-i
-decreases-loop-i l = length l.cells - l.i
+abbrev pub invariant-loop-cell : goal.invariant-loop-cell
+invariant-loop-cell l = Gathered min 65535 l.lowest l.cells l.cell-index × Gathered max 0 l.highest l.cells l.cell-index

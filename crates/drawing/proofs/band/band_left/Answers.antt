@@ -5,7 +5,7 @@ use Rattle.drawing.proofs.band.band_left.Goals as goal
 pub returns : goal.returns
 returns c =
     let args = c.args in
-    outline_left args.last args.tops.now args.bottoms.now args.room c.height_at.ensures
-    c.digits.ensures.0 c.less-opened.ensures
-    c.side_left-along.ensures c.height_at-2.ensures c.corner_length.ensures
-    c.less-turned.ensures c.side_left.ensures c.less.ensures
+    outline_left args.last args.tops.now args.bottoms.now args.room c.height.ensures
+    c.digits.ensures.0 c.saturating_sub-opened.ensures
+    c.left-turning.ensures c.height-2.ensures c.corner_length.ensures
+    c.saturating_sub-turned.ensures c.left.ensures c.saturating_sub.ensures

@@ -1,5 +1,5 @@
 -- Each turn puts one record more. Assumes nothing.
-use Prim.Native.Nat.{◌-◌, ◌≤◌}
+use Prim.Native.Nat.{◌≤◌}
 use lib.ListN.{length}
 use mathlib.Core.Path.{◌≡◌}
 use Rattle.events.specs.Events.{capacity}
@@ -11,6 +11,3 @@ abbrev pub invariant-loop-i : goal.invariant-loop-i
 invariant-loop-i l =
     (l.i ≤ capacity) × (length l.initial.area ≡ area_length) × (length (saved_of l.self) ≡ capacity)
     × Put (saved_of l.self) l.initial.area l.i l.area
-
-abbrev pub decreases-loop-i : goal.decreases-loop-i
-decreases-loop-i l = capacity - l.i

@@ -1,5 +1,4 @@
 -- The loop fills the words one after the other. Assumes nothing.
-use Prim.Native.Nat.{◌-◌}
 use lib.ListN.{drop}
 use Rattle.laws.proofs.Rows.{Filling}
 use Rattle.numbers.specs.Numbers.{half_at}
@@ -8,6 +7,3 @@ use Rattle.events.proofs.Events.words.Given as goal
 
 abbrev pub invariant-loop-i : goal.invariant-loop-i
 invariant-loop-i l = Filling 127 (half_at (event_longs l.lifetime (drop l.first l.list))) l.count l.i l.words
-
-abbrev pub decreases-loop-i : goal.decreases-loop-i
-decreases-loop-i l = l.count - l.i

@@ -1,5 +1,5 @@
 -- Each turn looks at one record more. Assumes nothing.
-use Prim.Native.Nat.{◌-◌, ◌≤◌}
+use Prim.Native.Nat.{◌≤◌}
 use Rattle.laws.specs.History.{any}
 use Rattle.laws.proofs.Looking.{Without}
 use Rattle.events.specs.Events.{capacity}
@@ -8,6 +8,3 @@ use Rattle.events.proofs.area.is_used_from.Given as goal
 
 abbrev pub invariant-loop-i : goal.invariant-loop-i
 invariant-loop-i l = (l.i ≤ capacity) × Without (any used) (records_in l.area) l.from l.i
-
-abbrev pub decreases-loop-i : goal.decreases-loop-i
-decreases-loop-i l = capacity - l.i

@@ -7,6 +7,3 @@ use Rattle.events.proofs.area.list_in.Given as goal
 
 abbrev pub invariant-loop-i : goal.invariant-loop-i
 invariant-loop-i l = (l.i ≤ l.count) × (l.count ≤ capacity) × Last no_event (capacity - l.count) l.count (records_in l.area) l.i l.list
-
-abbrev pub decreases-loop-i : goal.decreases-loop-i
-decreases-loop-i l = l.count - l.i

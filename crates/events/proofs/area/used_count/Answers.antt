@@ -1,6 +1,7 @@
 -- Each turn passes one used record. Assumes nothing.
 use native.Mathlib.Omega.{arith}
-use mathlib.Core.Path.{ap}
+use mathlib.Core.Path.{◌≡◌, ◌∙◌, ap}
+use Rattle.events.specs.Events.{capacity}
 use mathlib.Core.Bool.{not}
 use Rattle.events.proofs.Records.{length_in, none_used, one_used, ended_used, all_used}
 use borrow.Author.Rules.{rules}
@@ -24,4 +25,6 @@ loop-i-preserved c = (
 )
 
 pub returns : goal.returns
-returns c = (all_used c.loop-i.invariant.1 (omega (arith, length_in c.args.area.now)), search rules)
+returns c =
+    let e : capacity ≡ c.loop-i.i = omega arith in
+    (e ∙ all_used c.loop-i.invariant.1 (omega (arith, length_in c.args.area.now)), search rules)

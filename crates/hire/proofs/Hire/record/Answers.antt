@@ -2,7 +2,6 @@
 use mathlib.Core.Path.{◌≡◌, refl, sym, ap, ◌∙◌}
 use mathlib.Core.List.{List}
 use Prim.Native.Nat.{ℕ, suc, ◌≤◌, ◌<◌}
-use native.Mathlib.Omega.{arith}
 use native.Mathlib.Numerals.{add-one}
 use lib.ListN.{length, get_or, drop, drop_of_length-le}
 use lib.Seq.{drop-cons}
@@ -23,21 +22,16 @@ last : (seconds : ℕ) (events : Events) (ns : List ℕ) (i : ℕ) → length ns
 unfolding recorded_all
 last seconds events ns i h = ap (recorded_all seconds events) (drop_of_length-le ns {i = i} h)
 
-pub loop-i-init : goal.loop-i-init
-loop-i-init c = (search rules, refl)
+pub loop-number-init : goal.loop-number-init
+loop-number-init c = refl
 
-pub loop-i-preserved : goal.loop-i-preserved
-loop-i-preserved c =
-    let ns = c.args.numbers in
-    let size : length ns ≡ 8 = search rules in
-    let more = first c.args.seconds c.loop-i.events ns c.loop-i.i (omega (arith, size)) in
-    (search rules, rw (add-one, c.recorded-events.ensures) (sym more ∙ c.loop-i.invariant.1))
+pub loop-number-preserved : goal.loop-number-preserved
+loop-number-preserved c =
+    let more = first c.args.seconds c.loop-number.events c.args.numbers c.loop-number.number-index (search rules) in
+    rw (add-one, c.recorded-events.ensures) (sym more ∙ c.loop-number.invariant)
 
 pub returns : goal.returns
 unfolding record_of
 returns c =
-    let ns = c.args.numbers in
-    let size : length ns ≡ 8 = search rules in
-    c.with_events.ensures
-    ∙ ap (with_events c.args.self) (sym (last c.args.seconds c.loop-i.events ns c.loop-i.i (omega (arith, size)))
-    ∙ c.loop-i.invariant.1)
+    let none = last c.args.seconds c.loop-number.events c.args.numbers c.loop-number.number-index (search rules) in
+    c.with_events.ensures ∙ ap (with_events c.args.self) (sym none ∙ c.loop-number.invariant)

@@ -1,6 +1,5 @@
 -- Each turn takes one byte, until a frame is whole. Assumes nothing.
 use mathlib.Core.Path.{◌≡◌}
-use Prim.Native.Nat.{◌-◌}
 use lib.ListN.{length}
 use Rattle.receiver.proofs.Held.{receiver}
 use Rattle.receiver.proofs.Filling.{Filling}
@@ -8,6 +7,3 @@ use Rattle.receiver.proofs.Receiver.offer.Given as goal
 
 abbrev pub invariant-loop-taken : goal.invariant-loop-taken
 invariant-loop-taken l = (length l.held ≡ 264) × Filling (receiver l.initial.held l.initial.count) (receiver l.held l.count) l.bytes l.taken
-
-abbrev pub decreases-loop-taken : goal.decreases-loop-taken
-decreases-loop-taken l = length l.bytes - l.taken

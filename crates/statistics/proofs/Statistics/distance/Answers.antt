@@ -2,15 +2,9 @@
 use borrow.Author.Tests.{ne_eqb}
 use borrow.Author.Rules.{rules}
 use Rattle.statistics.specs.Statistics.{distance_of}
-use Rattle.statistics.proofs.Distance.{stopped}
+use Rattle.statistics.proofs.Distance.{held}
 use Rattle.statistics.proofs.Statistics.distance.Goals as goal
-
-pub returns-then-per_km-eq0 : goal.returns-then-per_km-eq0
-unfolding distance_of
-returns-then-per_km-eq0 c = rw c.if-per_km-eq0.true
 
 pub returns : goal.returns
 unfolding distance_of
-returns c =
-    rw (ne_eqb _ _ c.if-per_km-eq0.false, c.held_to_32_bits.ensures, c.held_pulses.ensures)
-    (stopped _ _ (search rules) (search rules))
+returns c = rw (ne_eqb _ _ c.if-per_km-eq0.false, c.min-2.ensures, c.min.ensures) (held _ _ (search rules) (search rules))

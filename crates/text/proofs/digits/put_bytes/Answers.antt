@@ -1,15 +1,8 @@
 -- All bytes, if there is room for them. Assumes nothing.
-use Prim.Native.Nat.{◌+◌, ◌*◌}
+use Prim.Native.Nat.{◌*◌}
 use lib.ListN.{length}
-use Rattle.text.proofs.Writing.{bytes_length, put_room, put_none, has}
-use borrow.Author.Rules.{rules}
+use Rattle.text.proofs.Writing.{bytes_length, put_room, put_none}
 use Rattle.text.proofs.digits.put_bytes.Goals as goal
-
-pub write_bytes-requires : goal.write_bytes-requires
-write_bytes-requires c =
-    let args = c.args in
-    has (args.at + 3 * length args.bytes.now) (length args.out.now) c.has_room_for_all.ensures
-    c.if-has_room_for_all.true
 
 pub returns-then-has_room_for_all : goal.returns-then-has_room_for_all
 returns-then-has_room_for_all c =

@@ -1,9 +1,8 @@
 -- Each turn writes the last digit of what is left of the number. Assumes nothing.
-use mathlib.Core.Path.{◌≡◌, refl}
+use mathlib.Core.Path.{refl}
 use Prim.Native.Nat.{◌/◌}
 use native.Mathlib.Omega.{arith}
-use lib.ListN.{length}
-use Rattle.text.proofs.Decimal.{Writing, begun, one_more, first_digit, some_digit, more_long}
+use Rattle.text.proofs.Decimal.{begun, one_more, first_digit, some_digit, more_long}
 use borrow.Author.Rules.{rules}
 use Rattle.text.proofs.digits.write_decimal.Goals as goal
 
@@ -12,9 +11,6 @@ overflow_sub-place c = let some = some_digit c.args.number in search rules
 
 pub loop-rest-init : goal.loop-rest-init
 loop-rest-init c = let some = some_digit c.args.number in (refl, begun (omega arith))
-
-pub bounds-out-place : goal.bounds-out-place
-bounds-out-place c = omega (arith, c.loop-rest.invariant.1.ends, c.loop-rest.invariant.1.within)
 
 pub overflow_sub-place-in-loop-rest : goal.overflow_sub-place-in-loop-rest
 overflow_sub-place-in-loop-rest c =

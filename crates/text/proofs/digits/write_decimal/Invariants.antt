@@ -1,10 +1,7 @@
 -- Each turn writes the last digit of what is left of the number. Assumes nothing.
-use mathlib.Core.Path.{◌≡◌, refl}
-use Prim.Native.Nat.{◌/◌}
-use native.Mathlib.Omega.{arith}
+use mathlib.Core.Path.{◌≡◌}
 use lib.ListN.{length}
-use Rattle.text.proofs.Decimal.{Writing, begun, one_more, first_digit, some_digit, more_long}
-use borrow.Author.Rules.{rules}
+use Rattle.text.proofs.Decimal.{Writing}
 use Rattle.text.proofs.digits.write_decimal.Given as goal
 
 abbrev pub invariant-loop-rest : goal.invariant-loop-rest

@@ -1,12 +1,7 @@
 -- Each turn passes sixteen bytes, none of them an LF. Assumes nothing.
-use mathlib.Core.Path.{◌∙◌}
-use Prim.Native.Nat.{◌+◌, ◌-◌}
-use native.Mathlib.Omega.{arith}
-use lib.ListN.{length}
+use Rattle.std.proofs.Common.{◌-◌, length}
 use Rattle.text.specs.Lines.{is_end}
-use Rattle.text.proofs.Places.{Ahead, here}
-use Rattle.text.proofs.Writing.{has}
-use borrow.Author.Rules.{rules}
+use Rattle.text.proofs.Places.{Ahead}
 use Rattle.text.proofs.lines.far_end.Given as goal
 
 abbrev pub invariant-loop-from : goal.invariant-loop-from

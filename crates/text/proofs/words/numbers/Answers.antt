@@ -1,31 +1,14 @@
 -- Each turn reads one word more and enters it. Assumes nothing.
-use mathlib.Core.Path.{◌≡◌, refl}
-use Prim.Native.Nat.{◌-◌}
-use borrow.Author.Tests.{not-true, not-false}
-use lib.ListN.{length}
-use Rattle.text.specs.Numbers.{number_of}
-use Rattle.text.proofs.Entering.{Entering, none_entered, one_entered, wrong_word, no_place, all_entered}
-use borrow.Author.Rules.{rules}
+use Rattle.std.proofs.Common.{refl, sym, ◌∙◌, rules}
+use Rattle.text.proofs.Entering.{none_entered, one_entered}
 use Rattle.text.proofs.words.numbers.Goals as goal
 
 pub loop-at-init : goal.loop-at-init
 loop-at-init c = (refl, none_entered c.next_word-at.ensures)
 
-pub returns-then-numbers-count : goal.returns-then-numbers-count
-returns-then-numbers-count c = no_place c.loop-at.invariant.1 (search rules) (search rules)
-
-pub returns-then-not-number : goal.returns-then-not-number
-returns-then-not-number c =
-    wrong_word c.loop-at.invariant.1 c.digits-number.ensures.0
-    (not-true _ c.if-not-number.true) (search rules)
-
 pub loop-at-preserved : goal.loop-at-preserved
 loop-at-preserved c = (
   search rules,
-  one_entered c.loop-at.invariant.1
-      c.digits-number.ensures.0 (not-false _ c.if-not-number.false) c.next_word-at-in-loop-at.ensures
+  one_entered c.loop-at.invariant.1 (sym c.in_ok-number.was ∙ c.digits.ensures.read) c.next_word-at-in-loop-at.ensures
       (search rules) (search rules),
 )
-
-pub returns : goal.returns
-returns c = all_entered c.loop-at.invariant.1 (search rules)

@@ -1,11 +1,7 @@
 -- Each turn reads one word more and enters it. Assumes nothing.
-use mathlib.Core.Path.{◌≡◌, refl}
-use Prim.Native.Nat.{◌-◌}
-use borrow.Author.Tests.{not-true, not-false}
-use lib.ListN.{length}
+use Rattle.std.proofs.Common.{◌≡◌, ◌-◌, length}
 use Rattle.text.specs.Numbers.{number_of}
-use Rattle.text.proofs.Entering.{Entering, none_entered, one_entered, wrong_word, no_place, all_entered}
-use borrow.Author.Rules.{rules}
+use Rattle.text.proofs.Entering.{Entering}
 use Rattle.text.proofs.words.numbers.Given as goal
 
 abbrev pub invariant-loop-at : goal.invariant-loop-at

@@ -1,27 +1,20 @@
 -- Record by record, until one is refused or none is left. Assumes nothing.
-use mathlib.Core.Path.{sym, ap}
-use mathlib.Core.Bool.{not}
-use lib.Seq.{length-take-le}
-use Rattle.desk.specs.Desk.{record_length}
-use Rattle.totals.proofs.Records.{begun, ends, stops, next}
-use borrow.Author.Rules.{rules}
+use mathlib.Core.Path.{◌∙◌}
+use native.Mathlib.Omega.{arith}
+use Rattle.totals.proofs.Records.{ends, stops, next}
 use Rattle.totals.proofs.Totals.billed.Goals as goal
 
-pub loop-rest-init : goal.loop-rest-init
-loop-rest-init c = begun
+pub returns-in-Err : goal.returns-in-Err
+returns-in-Err c =
+    let (split, long) = c.in-Some.ensures.steps.1 in
+    stops c.loop-record.invariant.0 _ _ split (long ∙ c.loop-record.invariant.1) c.of.ensures c.taken.ensures c.in-Err.is
 
-pub slice_bounds-of-end : goal.slice_bounds-of-end
-slice_bounds-of-end c = sym (length-take-le record_length c.loop-rest.rest.now (search rules))
-
-pub returns-then-not-is_done : goal.returns-then-not-is_done
-returns-then-not-is_done c =
-    stops c.loop-rest.invariant c.of.ensures c.taken-next.ensures
-    c.is_done.ensures (search rules) (ap not c.if-not-is_done.true)
-
-pub loop-rest-preserved : goal.loop-rest-preserved
-loop-rest-preserved c =
-    next c.loop-rest.invariant c.of.ensures c.taken-next.ensures
-    c.is_done.ensures (search rules) (ap not c.if-not-is_done.false)
+pub loop-record-preserved : goal.loop-record-preserved
+loop-record-preserved c =
+    let (split, long) = c.in-Some.ensures.steps.1 in (
+      next c.loop-record.invariant.0 _ _ split (long ∙ c.loop-record.invariant.1) c.of.ensures c.taken.ensures c.in-Ok.is,
+      c.in-Some.ensures.steps.0 ∙ c.loop-record.invariant.1,
+    )
 
 pub returns : goal.returns
-returns c = ends c.loop-rest.invariant c.cut_outcome.ensures (search rules)
+returns c = ends c.loop-record.invariant.0 c.cut_outcome.ensures (omega (arith, c.in-None.ensures.steps.1.0))

@@ -1,5 +1,0 @@
--- By cases. Assumes nothing.
-use Rattle.refusals.proofs.Outcome.number.Goals as goal
-
-pub returns-in-Refused : goal.returns-in-Refused
-returns-in-Refused c = rw c.in-Refused.is c.number.ensures
