@@ -34,6 +34,6 @@ fn length_by(command: u8, pl: u8) -> usize
         0x17 => 6,
         0x18 => 6,
         0x19 => 8,
-        _ => 5 + (pl as usize),
+        _ => 5 + usize::from(pl),
     }
 }

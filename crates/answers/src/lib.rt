@@ -13,9 +13,10 @@ ghost use Rattle.replies.specs.Replies.{word16, words, sealed, Filled};
 ghost use Rattle.answers.specs.Answers.{body_of, taken_reply, accepted_reply, refused_reply, asked_outcome, asked_settings, taking, Answers};
 ghost use Rattle.answers.specs.Making.{count_of, word_of, reply_of};
 
-use crate::registers::{WORDS, block, listed};
+use crate::registers::{block, listed};
 use hire::Hire;
 pub use length::length_in;
+use numbers::WORDS;
 use pack::Pack;
 use refusals::Refusal;
 pub use registers::register;

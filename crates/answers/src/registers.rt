@@ -6,10 +6,8 @@ ghost use Rattle.answers.specs.Registers.{in_readings, in_statistics, in_setting
 ghost use Rattle.answers.specs.Making.{listed_by, listed_word, looked_up};
 
 use hire::Hire;
+use numbers::{WORDS, words};
 use pack::Pack;
-
-// No reply has more words.
-pub(crate) const WORDS: usize = 127;
 
 // A register's value; a number outside the three ranges has none.
 pub fn register(pack: Pack, hire: Hire, at: u16) -> Option<u16>
@@ -47,11 +45,10 @@ pub(crate) fn listed(pack: Pack, hire: Hire, request: &[u8], count: u8) -> [u16;
     let readings = hire.registers(pack.clock.seconds, per_km, 0, 56);
     let statistics = hire.statistics.registers(per_km, 0, 18);
     let settings = pack.settings.registers(0, 100);
-    let mut words = [0; WORDS];
-    for i in 0..count as u16 {
-        words[i as usize] = listed_word(request, &readings, &statistics, &settings, i);
-    }
-    words
+    words(
+        count,
+        |i| listed_word(request, &readings, &statistics, &settings, i),
+    )
 }
 
 #[tactic(auto, unfolding(crate::specs::Making::listed_by))]
@@ -79,19 +76,19 @@ fn looked_up(readings: &[u16], statistics: &[u16], settings: &[u16], at: u16) ->
     ensures { result ≡ looked_up readings.now statistics.now settings.now at }
 {
     if at < 56 {
-        return readings[at as usize];
+        return readings[usize::from(at)];
     }
     if at < 100 {
         return 0;
     }
     if at < 118 {
-        return statistics[(at - 100) as usize];
+        return statistics[usize::from(at - 100)];
     }
     if at < 300 {
         return 0;
     }
     if at < 400 {
-        return settings[(at - 300) as usize];
+        return settings[usize::from(at - 300)];
     }
     0
 }

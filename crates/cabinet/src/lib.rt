@@ -139,6 +139,6 @@ fn chosen(one: bool, two: bool, both: u16, first: u16, second: u16) -> u16
 fn half_of_sum(first: u16, second: u16) -> u16
     ensures { result ≡ (((first + 32768) % 65536 + (second + 32768) % 65536) / 2 + 32768) % 65536 }
 {
-    let sum = ((first as u32) + 32768) % 65536 + ((second as u32) + 32768) % 65536;
+    let sum = (u32::from(first) + 32768) % 65536 + (u32::from(second) + 32768) % 65536;
     ((sum / 2 + 32768) % 65536) as u16
 }

@@ -51,7 +51,7 @@ pub fn sum(cells: &[u16]) -> u32
 {
     let mut all = 0;
     for cell in first_16(cells) {
-        all += *cell as u32;
+        all += u32::from(*cell);
     }
     all
 }
@@ -72,7 +72,7 @@ pub fn decision(cells: &[u16], r303: u16, r308: u16) -> u16
 pub fn millivolts(cell: u16) -> u16
     ensures { result ≡ millivolts_of cell }
 {
-    (((cell as u32) + 5) / 10) as u16
+    ((u32::from(cell) + 5) / 10) as u16
 }
 
 fn first_16(cells: &[u16]) -> &[u16]
@@ -86,5 +86,5 @@ fn decision_bit(r303: u16, r308: u16, low: u16, cell: u16) -> u16
     ensures { (result ≡ bit_of (decides r303 r308 low cell)) × (result ≤ 1) }
 {
     let more = cell.saturating_sub(low);
-    ((10 * (r303 as u32) < cell as u32) & (10 * (r308 as u32) < more as u32)) as u16
+    ((10 * u32::from(r303) < u32::from(cell)) & (10 * u32::from(r308) < u32::from(more))) as u16
 }

@@ -8,14 +8,13 @@ ghost use Rattle.events.specs.Events.{capacity, event_at, time_of, number_of, ke
 ghost use Rattle.laws.specs.Row.{row};
 ghost use Rattle.numbers.specs.Numbers.{half_at};
 
+use numbers::{WORDS, words};
+
 // How many events are kept.
 pub const CAPACITY: usize = 62;
 
 // How many bytes the area has that they are saved into: a record of four for each.
 pub const AREA: usize = 4 * CAPACITY;
-
-// No reply has more words.
-const WORDS: usize = 127;
 
 // As it is sent: three time bytes and the event's number, low byte first. All zeros where there is none.
 #[repr(C)]
@@ -110,28 +109,19 @@ impl Events {
         self.words(self.kept_count(), lifetime, count)
     }
 
-    // The list is looked into where it lies: a word by itself would be handed all of it.
+    #[tactic(auto, unfolding(crate::specs::Events::latest))]
     fn words(self, kept: u8, lifetime: u32, count: u8) -> [u16; WORDS]
         ensures { result ≡ row 127 (half_at (event_longs lifetime (latest kept self))) (min 127 count) }
     {
-        let list = self.list;
-        let first = from_end(kept);
-        let count = numbers::up_to_127(count);
-        let mut words = [0; WORDS];
-        for i in 0..count {
-            // The lifetime stands before the events.
-            let at = first + ((i / 2).saturating_sub(1) as usize);
-            let event = list.get(at).copied().unwrap_or(Event { bytes: 0 });
-            words[i as usize] = numbers::half(long(lifetime, event, i / 2), i);
-        }
-        words
+        let events = &self.list[from_end(kept)..];
+        words(count, |i| word_at(events, lifetime, i))
     }
 
     #[tactic(auto, unfolding(crate::specs::Events::latest))]
     fn latest_at(self, count: u8, n: u16) -> Event
         ensures { result ≡ placed (latest count self) n }
     {
-        let at = from_end(count) + (n as usize);
+        let at = from_end(count) + usize::from(n);
         self.list.get(at).copied().unwrap_or(Event { bytes: 0 })
     }
 }
@@ -154,9 +144,24 @@ impl Event {
         ensures { result ≡ event_at seconds number }
     {
         Event {
-            bytes: seconds % 16777216 + 16777216 * (number as u32),
+            bytes: seconds % 16777216 + 16777216 * u32::from(number),
         }
     }
+}
+
+// A word of a reply: the half of a pair, the lifetime's first and then each event's.
+fn word_at(events: &[Event], lifetime: u32, i: u16) -> u16
+    ensures { result ≡ half_at (event_longs lifetime events.now) i }
+{
+    let event = events.get(usize::from((i / 2).saturating_sub(1)));
+    numbers::half(
+        long(
+            lifetime,
+            event.copied().unwrap_or(Event { bytes: 0 }),
+            i / 2,
+        ),
+        i,
+    )
 }
 
 // The lifetime first, and then the event.
@@ -176,5 +181,5 @@ fn one_more(n: u8) -> u8
 fn from_end(count: u8) -> usize
     ensures { (result ≡ capacity - count) × (result ≤ capacity) }
 {
-    CAPACITY.saturating_sub(count as usize)
+    CAPACITY.saturating_sub(usize::from(count))
 }

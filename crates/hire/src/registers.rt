@@ -6,22 +6,15 @@ ghost use Rattle.hire.specs.Registers.{temperature_at, reading_register};
 
 use crate::{Hire, Sensed};
 use live::Speed;
-
-// No reply has more.
-const WORDS: usize = 127;
+use numbers::{WORDS, words};
 
 impl Hire {
     // So many registers from `from` on, as the words of a reply, on a board with that lifetime and those pulses per km; zeros after them.
     pub fn registers(self, lifetime: u32, per_km: u16, from: u8, count: u8) -> [u16; WORDS]
         ensures { result ≡ row 127 (λ i. reading_register self lifetime per_km (from + i)) (min 127 count) }
     {
-        let count = numbers::up_to_127(count);
-        let first = from as u16;
-        let mut words = [0; WORDS];
-        for i in 0..count {
-            words[i as usize] = self.register(lifetime, per_km, first + i);
-        }
-        words
+        let first = u16::from(from);
+        words(count, |i| self.register(lifetime, per_km, first + i))
     }
 
     // Registers 0 to 55; 0 past them.
@@ -65,12 +58,7 @@ impl Sensed {
     pub fn temperatures(self, count: u8) -> [u16; WORDS]
         ensures { result ≡ row 127 (temperature_at self) (min 127 count) }
     {
-        let count = numbers::up_to_127(count);
-        let mut words = [0; WORDS];
-        for i in 0..count {
-            words[i as usize] = self.temperature(i);
-        }
-        words
+        words(count, |i| self.temperature(i))
     }
 
     // Internal, external 1, external 2.
@@ -90,6 +78,6 @@ impl Sensed {
         ensures { result ≡ get_or self.cells at 0 }
     {
         let cells = self.cells;
-        cells[at as usize]
+        cells[usize::from(at)]
     }
 }

@@ -2,10 +2,26 @@
 #![tactic(auto)]
 
 ghost use Rattle.std.specs.Prelude.{[], ◌∷◌, ◌≡◌, ◌+◌, min, ℕ, ◌<◌, get_or};
+ghost use Rattle.laws.specs.Row.{row};
 ghost use Rattle.numbers.specs.Numbers.{low_first_or, le16_at, le32_at, le64_at, be16_at, le16, le32, le64, be16, Wrote, low_half, high_half, half_of};
 
+// No reply has more words.
+pub const WORDS: usize = 127;
+
+// So many words of a reply, each what the function gives of its place; zeros after them.
+pub fn words<F: Fn(u16) -> u16>(count: u8, word: F) -> [u16; WORDS]
+    requires { (i : ℕ) → i < 127 → F.pre word i }
+    ensures { (f : ℕ → ℕ) → ((i v : ℕ) → i < 127 → F.post word i v → v ≡ f i) → result ≡ row 127 f (min 127 count) }
+{
+    let mut words = [0; WORDS];
+    for i in 0..up_to_127(count) {
+        words[usize::from(i)] = word(i);
+    }
+    words
+}
+
 // As many words as a reply can have.
-pub fn up_to_127(count: u8) -> u16
+fn up_to_127(count: u8) -> u16
     ensures { result ≡ min 127 count }
 {
     u16::from(count.min(127))

@@ -140,18 +140,18 @@ impl Query {
                 command: _,
                 at: _,
                 count,
-            } => count as u16,
-            Query::Listed { count } => 2 * (count as u16),
+            } => u16::from(count),
+            Query::Listed { count } => 2 * u16::from(count),
             Query::Bare {
                 command: _,
                 at: _,
                 count,
-            } => count as u16,
-            Query::NewEvents => 2 + 2 * (new as u16),
-            Query::AllEvents => 2 + 2 * (kept as u16),
+            } => u16::from(count),
+            Query::NewEvents => 2 + 2 * u16::from(new),
+            Query::AllEvents => 2 + 2 * u16::from(kept),
             Query::Temperatures => 3,
-            Query::Cells => cells as u16,
-            Query::SettingsOf { kind: _, count } => count as u16,
+            Query::Cells => u16::from(cells),
+            Query::SettingsOf { kind: _, count } => u16::from(count),
         }
     }
 }
@@ -204,7 +204,7 @@ fn right_length(command: u8, rl: u8, taken: usize) -> usize
     ensures { result ≡ right_length command rl taken }
 {
     if command == 0x10 {
-        9 + 2 * (rl as usize)
+        9 + 2 * usize::from(rl)
     } else {
         taken
     }
@@ -223,7 +223,7 @@ pub fn length_of(bytes: &[u8]) -> usize
 pub fn address_at(bytes: &[u8], i: u16) -> u16
     ensures { result ≡ address_at bytes.now i }
 {
-    low_first_16(bytes, 3 + 2 * (i as usize))
+    low_first_16(bytes, 3 + 2 * usize::from(i))
 }
 
 fn expected_in(bytes: &[u8]) -> Expected
@@ -241,10 +241,10 @@ fn expected_of(command: u8, third: u8, seventh: u8) -> Expected
         0x02 => expect(5, Command::Clear),
         0x03 => expect(8, Command::Block),
         0x07 => expect(7, Command::QuickBlock),
-        0x09 => expect(5 + (third as usize), Command::AskList),
-        0x0B => expect(5 + (third as usize), Command::Write(Form::Block)),
-        0x0D => expect(5 + (third as usize), Command::Write(Form::List)),
-        0x10 => expect(9 + (seventh as usize), Command::Write(Form::Modbus)),
+        0x09 => expect(5 + usize::from(third), Command::AskList),
+        0x0B => expect(5 + usize::from(third), Command::Write(Form::Block)),
+        0x0D => expect(5 + usize::from(third), Command::Write(Form::List)),
+        0x10 => expect(9 + usize::from(seventh), Command::Write(Form::Modbus)),
         0x11 => expect(4, Command::Ask(Query::NewEvents)),
         0x12 => expect(4, Command::Ask(Query::AllEvents)),
         0x14 => expect(4, bare(0x14, 36, 2)),
@@ -329,8 +329,8 @@ fn are_all_shown(bytes: &[u8], count: u8) -> bool
 fn is_in_one_range(at: u16, rl: u8) -> bool
     ensures { result ≡ in_one_range at rl }
 {
-    let first = at as u32;
-    let end = first + (rl as u32);
+    let first = u32::from(at);
+    let end = first + u32::from(rl);
     (end <= 56) | ((100 <= first) & (end <= 118)) | ((300 <= first) & (end <= 400))
 }
 

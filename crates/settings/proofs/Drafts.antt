@@ -15,7 +15,7 @@ use lib.Signed.{mag}
 use mir.Syntax.{w16}
 use mir.Val.{sel}
 use Rattle.laws.specs.History.{any}
-use Rattle.refusals.specs.Refusals.{Outcome, Done, Refused, is_done, giving, first}
+use Rattle.refusals.specs.Refusals.{Outcome, Done, is_done, giving, first}
 use Rattle.std.specs.Prelude.{Ok, Err}
 use Rattle.refusals.proofs.Rows.{off}
 use Rattle.signed.specs.Signed.{bits_of, from_bits}

@@ -6,7 +6,7 @@ use Rattle.std.specs.Int.Signed.{le_z}
 use Rattle.laws.specs.History.{any}
 use Rattle.refusals.specs.declared.Refusal.{Refusal}
 use Rattle.refusals.specs.declared.Refusal.TheVariants.{OutOfRange, OutOfOrder}
-use Rattle.refusals.specs.Refusals.{Outcome, Done, Refused, giving, first}
+use Rattle.refusals.specs.Refusals.{Outcome, giving, first}
 use Rattle.signed.specs.Signed.{bits_of, from_bits}
 use Rattle.settings.specs.declared.Settings.{Settings}
 use Rattle.settings.specs.declared.Kind.{Kind}

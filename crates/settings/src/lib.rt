@@ -7,10 +7,8 @@ ghost use Rattle.laws.specs.Row.{row};
 ghost use Rattle.settings.specs.Settings.{factory, of_kind, register_of, values_of, settings_of, meant_by, ordered};
 ghost use Rattle.settings.specs.Settings.{judged_of, draft_of, Put, written_of};
 
+use numbers::{WORDS, words};
 use refusals::Refusal;
-
-// No reply has more.
-const WORDS: usize = 127;
 
 // The registers of document 01's list, by their numbers.
 #[repr(C)]
@@ -136,13 +134,8 @@ impl Settings {
     pub fn registers(self, from: u8, count: u8) -> [u16; WORDS]
         ensures { result ≡ row 127 (λ i. register_of self (300 + from + i)) (min 127 count) }
     {
-        let count = numbers::up_to_127(count);
-        let first = 300 + (from as u16);
-        let mut words = [0; WORDS];
-        for i in 0..count {
-            words[i as usize] = self.register(first + i);
-        }
-        words
+        let first = 300 + u16::from(from);
+        words(count, |i| self.register(first + i))
     }
 
     // A whole set of settings is judged as a write of it would be.

@@ -9,10 +9,8 @@ ghost use Rattle.statistics.specs.Statistics.{summed_of, ridden_of, counted_of, 
 use cells::Extremes;
 use desk::Record;
 use guard::Conditions;
+use numbers::{WORDS, words};
 use readings::Readings;
-
-// No reply has more words.
-const WORDS: usize = 127;
 
 // Past so many pulses, 2^48, every distance has stopped at its end.
 const MOST_PULSES: u64 = 281474976710656;
@@ -75,7 +73,10 @@ impl Statistics {
     pub fn ridden(mut self, pulses: u16) -> Statistics
         ensures { result ≡ ridden_of self pulses }
     {
-        self.pulses = self.pulses.saturating_add(pulses as u64).min(MOST_PULSES);
+        self.pulses = self
+            .pulses
+            .saturating_add(u64::from(pulses))
+            .min(MOST_PULSES);
         self
     }
 
@@ -145,13 +146,8 @@ impl Statistics {
     pub fn registers(self, per_km: u16, from: u8, count: u8) -> [u16; WORDS]
         ensures { result ≡ row 127 (λ i. register_of self per_km (100 + from + i)) (min 127 count) }
     {
-        let count = numbers::up_to_127(count);
-        let first = 100 + (from as u16);
-        let mut words = [0; WORDS];
-        for i in 0..count {
-            words[i as usize] = self.register(per_km, first + i);
-        }
-        words
+        let first = 100 + u16::from(from);
+        words(count, |i| self.register(per_km, first + i))
     }
 
     // A register of 100 to 117; an unlisted one reads 0.
@@ -241,11 +237,11 @@ impl Counts {
     fn latchings(self) -> u32
         ensures { result ≡ latchings_of self }
     {
-        (self.uv as u32)
-            + (self.ov as u32)
-            + (self.doc as u32)
-            + (self.charge as u32)
-            + (self.ot as u32)
+        u32::from(self.uv)
+            + u32::from(self.ov)
+            + u32::from(self.doc)
+            + u32::from(self.charge)
+            + u32::from(self.ot)
     }
 }
 
@@ -254,8 +250,8 @@ impl Sums {
     fn with(self, current: i32) -> Sums
         ensures { result ≡ summed_of self current }
     {
-        let fed = signed::positive(current) as u64;
-        let drawn = signed::negative(current) as u64;
+        let fed = u64::from(signed::positive(current));
+        let drawn = u64::from(signed::negative(current));
         Sums {
             positive: self.positive.saturating_add(fed),
             negative: self.negative.saturating_add(drawn),
@@ -272,5 +268,5 @@ fn counted_up(n: u16, more: bool) -> u16
 fn in_hundreds(milliamps: u32) -> u16
     ensures { result ≡ hundreds milliamps }
 {
-    (milliamps / 100).min(u16::MAX as u32) as u16
+    (milliamps / 100).min(u32::from(u16::MAX)) as u16
 }

@@ -41,14 +41,14 @@ pub(crate) fn put_kept(
 ) -> usize {
     let mut next = put_state(out, at, state);
     next = put(out, next, SPACE);
-    next = put_decimal(out, next, edition as u64);
+    next = put_decimal(out, next, u64::from(edition));
     next = put_reply(out, next, store);
     put_end(out, next)
 }
 
 // NUMBER BYTE.. +Z
 pub(crate) fn put_tidied(out: &mut [u8], at: usize, number: u8, store: &[u8]) -> usize {
-    let mut next = put_decimal(out, at, number as u64);
+    let mut next = put_decimal(out, at, u64::from(number));
     next = put_reply(out, next, store);
     put_end(out, next)
 }
@@ -111,12 +111,12 @@ fn put_state(out: &mut [u8], at: usize, state: State) -> usize {
 
 // NUMBER, or 44:REGISTER.
 fn put_number(out: &mut [u8], at: usize, number: u8, register: u16) -> usize {
-    let next = put_decimal(out, at, number as u64);
+    let next = put_decimal(out, at, u64::from(number));
     if register == 0 {
         return next;
     }
     let colon = put(out, next, b':');
-    put_decimal(out, colon, register as u64)
+    put_decimal(out, colon, u64::from(register))
 }
 
 fn switch(is_on: bool, letter: u8) -> u8 {

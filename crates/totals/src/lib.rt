@@ -95,10 +95,10 @@ impl Totals {
     {
         Some(Totals {
             count: self.count.checked_add(1)?,
-            seconds: self.seconds.checked_add(hired.seconds as u64)?,
+            seconds: self.seconds.checked_add(u64::from(hired.seconds))?,
             positive: self.positive.checked_add(hired.positive)?,
             negative: self.negative.checked_add(hired.negative)?,
-            distance: self.distance.checked_add(hired.distance as u64)?,
+            distance: self.distance.checked_add(u64::from(hired.distance))?,
         })
     }
 }

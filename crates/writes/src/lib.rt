@@ -69,12 +69,12 @@ pub fn keeps_rules(form: Form, bytes: &[u8], count: u8) -> bool
 fn is_counted(form: Form, bytes: &[u8], count: u8) -> bool
     ensures { result ≡ well_counted form bytes.now count }
 {
-    let n = count as u16;
-    let pl = byte_at(bytes, 2) as u16;
+    let n = u16::from(count);
+    let pl = u16::from(byte_at(bytes, 2));
     match form {
         Form::Modbus => (byte_at(bytes, 4) == 0)
             & ((1 <= count) & (count <= 100))
-            & ((byte_at(bytes, 6) as u16) == 2 * n),
+            & (u16::from(byte_at(bytes, 6)) == 2 * n),
         Form::Block => ((1 <= count) & (count <= 100)) & (pl == 2 + 2 * n),
         Form::List => ((1 <= count) & (count <= 50)) & (pl == 4 * n),
     }
@@ -95,7 +95,7 @@ fn are_all_settings(form: Form, bytes: &[u8], count: u8) -> bool
 fn is_among_settings(first: u16, count: u8) -> bool
     ensures { result ≡ (eqb count 0 || (leb 300 first && leb (first + count) 400)) }
 {
-    let end = (first as u32) + (count as u32);
+    let end = u32::from(first) + u32::from(count);
     (count == 0) | ((300 <= first) & (end <= 400))
 }
 
@@ -103,7 +103,7 @@ fn are_listed_settings(bytes: &[u8], count: u8) -> bool
     ensures { result ≡ all_settings (pairs_of Form.List bytes.now count) }
 {
     let mut good = true;
-    for i in 0..(count as usize) {
+    for i in 0..usize::from(count) {
         let at = low_first_16(bytes, 3 + 4 * i);
         good = good & ((300 <= at) & (at <= 399));
     }
@@ -122,7 +122,7 @@ fn drafted(draft: Draft, bytes: &[u8], form: Form, count: u8) -> Draft
     ensures { result ≡ drafted_of draft (pairs_of form bytes.now count) }
 {
     let mut values = draft.values;
-    for i in 0..(count as u16) {
+    for i in 0..u16::from(count) {
         let pair = pair_at(form, bytes, i);
         put_value(&mut values, pair.at, pair.value);
     }
@@ -134,7 +134,7 @@ fn drafted(draft: Draft, bytes: &[u8], form: Form, count: u8) -> Draft
 fn pair_at(form: Form, bytes: &[u8], i: u16) -> Pair
     ensures { result ≡ pair_at form bytes.now i }
 {
-    let n = i as usize;
+    let n = usize::from(i);
     match form {
         Form::Modbus => pair_of(high_first_16(bytes, 2), i, high_first_16(bytes, 7 + 2 * n)),
         Form::Block => pair_of(low_first_16(bytes, 3), i, low_first_16(bytes, 5 + 2 * n)),
@@ -150,7 +150,7 @@ fn pair_of(first: u16, i: u16, value: u16) -> Pair
     ensures { result ≡ record { at = first + i; value = value } }
 {
     Pair {
-        at: (first as u32) + (i as u32),
+        at: u32::from(first) + u32::from(i),
         value,
     }
 }

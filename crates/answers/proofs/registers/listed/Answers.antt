@@ -1,18 +1,17 @@
 -- The rows of the three ranges, and then each address and its register, looked up in them. Assumes nothing.
-use mathlib.Core.Path.{◌∙◌}
+use mathlib.Core.Path.{◌≡◌, ◌∙◌, ap}
 use native.Mathlib.Omega.{arith}
-use Rattle.laws.proofs.Rows.{begun, next, done}
+use Rattle.std.proofs.Common.{rules, min}
+use Rattle.laws.specs.Row.{row}
+use Rattle.answers.specs.Making.{listed_by, looked_up}
 use Rattle.answers.proofs.Blocks.{of_lists}
 use Rattle.answers.proofs.registers.listed.Goals as goal
-
-pub loop-i-init : goal.loop-i-init
-loop-i-init c = begun
-
-pub loop-i-preserved : goal.loop-i-preserved
-loop-i-preserved c = next c.loop-i.invariant (omega arith) (omega arith) c.listed_word.ensures
 
 pub returns : goal.returns
 returns c =
     let a = c.args in
-    done c.loop-i.invariant (omega arith)
+    let lists = looked_up c.registers-readings.result c.registers-statistics.result c.registers-settings.result in
+    let all : min 127 a.count ≡ a.count = omega (arith, c.requires) in
+    c.words.ensures (listed_by lists a.request.now) (λ i v h p. search (rules, p))
+    ∙ ap (row 127 (listed_by lists a.request.now)) all
     ∙ of_lists a.pack a.hire a.request.now a.count c.registers-readings.ensures c.registers-statistics.ensures c.registers-settings.ensures
