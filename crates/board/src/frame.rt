@@ -39,11 +39,14 @@ impl Board {
     pub(crate) fn answered(self, request: &[u8], reply: &mut [u8]) -> Answer
         ensures { Answered self request.now reply.old result reply.new }
     {
+        // Each arm returns: as the value of the match the board would be copied once more.
         match answers::answer(self.pack, self.hire, request, reply) {
-            Ok(taken) => self
-                .changed(taken.asked, taken.settings)
-                .with_outcome(Ok(())),
-            Err(refusal) => self.with_outcome(Err(refusal)),
+            Ok(taken) => {
+                return self
+                    .changed(taken.asked, taken.settings)
+                    .with_outcome(Ok(()));
+            }
+            Err(refusal) => return self.with_outcome(Err(refusal)),
         }
     }
 

@@ -180,6 +180,7 @@ impl Week<'_> {
     }
 
     // A record past the end has no bytes, and a cut one has fewer; `Record::of` reads those as zeros.
+    #[inline(always)]
     fn record(&self, tick: usize) -> Record
         ensures { result ≡ record_at self.now.count self.now.records.now tick }
     {

@@ -1,9 +1,9 @@
 -- W-210 on boards. A recall that is accepted is a write of twelve by 0x0D, to the byte of the state, and changes nothing but the settings:
--- no switch, latch, wait or statistic. What a board that a start reaches keeps, any usable board recalls as it was kept. (The laws of the
--- store itself: crate `classes`, specs/Laws.)
+-- no switch, latch, wait or statistic. What a board that a start reaches keeps, any usable board recalls as it was kept. A recall or a keep
+-- that is refused changes nothing, of any board. (The laws of the store itself: crate `classes`, specs/Laws.)
 -- Assumes nothing.
 use Rattle.refusals.specs.declared.Refusal.{Refusal}
-use Rattle.refusals.proofs.Rows.{come_to_giving, gives_value}
+use Rattle.refusals.proofs.Rows.{come_to_giving, gives_value, not_done}
 use Rattle.std.specs.Prelude.{Ok, Result}
 use mathlib.Core.Path.{◌≡◌, refl, sym, ap, ◌∙◌, subst⁻¹}
 use mathlib.Core.Bool.{true, cond}
@@ -26,13 +26,15 @@ use Rattle.board.specs.declared.Board.{Board}
 use Rattle.board.specs.State.{usable, with_settings}
 use Rattle.board.specs.Changes as changes
 use Rattle.board.specs.Changes.{changed_by, asked_deeds}
-use Rattle.board.specs.Calls.{Call, keep, recall, shape, board_by, seen_of, outcome_in, board_after, carried_by, buffer_after}
+use Rattle.board.specs.Calls.{Call, keep, recall, shape, board_by, seen_of, left_of, outcome_in, board_after, carried_by, buffer_after}
 use Rattle.board.specs.Behaviour.{board}
 use Rattle.board.specs.Account.{Deed, took, wrote, cleared, forgot, sent, handed, heard, fetched, loaded, settings_at, board_at, deeds_of}
 use Rattle.board.specs.Demands.{reached}
-use Rattle.board.proofs.Shape.{by_rows, is_done_lem}
+use Rattle.board.specs.Promises.{left_in}
+use Rattle.board.proofs.Shape.{by_rows, is_done_lem, holds_on}
 use Rattle.board.proofs.Account.Deeds.{May, after_calls}
 use Rattle.board.proofs.Account.Settings.{Fits, written, ranges}
+use Rattle.board.proofs.Demands.Demand1.{refused}
 use Rattle.board.proofs.Demands.Demand2.{account}
 
 -- ---- a recall is one write
@@ -144,4 +146,23 @@ module _ (cells per_km : ℕ) (cs : List Call) (store : List ℕ) (other : Board
         accepted,
         recalled other after edition accepted
             ∙ ap (λ (r : Result Settings Refusal). with_settings other (settings.standing_of standing r)) (sym one ∙ found),
+      )
+
+-- ---- refused, nothing changed
+
+module _ (b : Board) (store : List ℕ) where
+  -- the settings that stand after a refused recall, and all else, are those that stood
+  pub recall_refused : (e : ℕ) → (outcome_in b (recall store e) ≡ Done → ⊥) → board_after b (recall store e) ≡ b
+  unfolding shape
+  recall_refused e undone = refused b (recall store e) undone (holds_on b (shape (recall store e)) (outcome_in b (recall store e)) refl)
+
+  -- a refused keep leaves every byte of the store and the board, and tells edition 0
+  pub keep_refused : (outcome_in b (keep store) ≡ Done → ⊥)
+      → (left_in b (keep store) store ≡ store) × (carried_by b (keep store) ≡ 0) × (board_after b (keep store) ≡ b)
+  unfolding shape left_of
+  keep_refused undone =
+      let off = not_done (outcome_in b (keep store)) undone in (
+        rw off refl,
+        rw off refl,
+        refused b (keep store) undone (holds_on b (shape (keep store)) (outcome_in b (keep store)) refl),
       )

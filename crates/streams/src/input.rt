@@ -62,11 +62,18 @@ pub fn read_records<R: Read>(goes_on: bool, input: &mut R, buffer: &mut [u8], si
     ensures { result.count ≤ length buffer.new }
 {
     let got = read_full(goes_on, input, buffer);
-    if got.is_well {
-        return got;
-    }
     Got {
-        count: got.count - got.count.checked_rem(size).unwrap_or(0),
-        is_well: false,
+        count: record_bytes(got, size),
+        is_well: got.is_well,
     }
+}
+
+// How many bytes the records have: no more than were read.
+fn record_bytes(got: Got, size: usize) -> usize
+    ensures { result ≤ got.count }
+{
+    if got.is_well {
+        return got.count;
+    }
+    got.count - got.count.checked_rem(size).unwrap_or(0)
 }

@@ -1,12 +1,13 @@
 -- The word that stands at a place: how long it is, and that it is the one that is looked for. Assumes nothing.
-use mathlib.Core.Path.{◌≡◌, refl, ap}
+use mathlib.Core.Path.{◌≡◌, refl, ap, ◌∙◌}
 use mathlib.Core.Bool.{Bool, true, false, cond, ◌||◌}
 use mathlib.Core.List.{List, [], ◌∷◌}
-use Prim.Native.Nat.{ℕ, suc, ◌+◌}
+use Prim.Native.Nat.{ℕ, suc, ◌+◌, ◌<◌, ◌≤◌}
 use native.Mathlib.Omega.{arith}
-use borrow.Author.Tests.{eq-eqb, eqb-true}
+use borrow.Author.Tests.{eq-eqb, eqb-true, ne_eqb}
 use lib.Dec.{eqb}
-use lib.ListN.{length, drop}
+use lib.ListN.{length, drop, get_or, drop_of_length-le}
+use lib.Seq.{drop-cons}
 use Rattle.std.specs.Prelude.{Some, None}
 use Rattle.text.specs.Lines.{until}
 use Rattle.text.specs.Words.{is_space, word, stands, place_after}
@@ -75,3 +76,25 @@ not_found name line from e f = go (stands name (drop from line)) refl
     go : (t : Bool) → stands name (drop from line) ≡ t → place_after name line from ≡ None
     go true g = absurd (f (then_its_word name (drop from line) e g))
     go false g = rw g
+
+-- ---- and where it is compared byte by byte
+
+-- i bytes are the same
+pub record Same (name line : List ℕ) (from i at : ℕ) : Type 0 where
+  pub rest : stands name (drop from line) ≡ stands (drop i name) (drop at line)
+  pub place : at ≡ from + i
+
+fails : (name line : List ℕ) (from : ℕ) → stands name (drop from line) ≡ false → None ≡ place_after name line from
+fails name line from e = rw e
+
+module _ {name line : List ℕ} {from i at : ℕ} (s : Same name line from i at) where
+  pub too_short : i < length name → length line ≤ at → None ≡ place_after name line from
+  too_short h k =
+      let f : stands (drop i name) (drop at line) ≡ false = rw (drop-cons name i 0 h, drop_of_length-le line k) in
+      fails name line from (s.rest ∙ f)
+
+  pub differs : i < length name → at < length line → (get_or line at 0 ≡ get_or name i 0 → ⊥) → None ≡ place_after name line from
+  differs h k e =
+      let f : stands (drop i name) (drop at line) ≡ false
+      = rw (drop-cons name i 0 h, drop-cons line at 0 k, ne_eqb (get_or line at 0) (get_or name i 0) e) in
+      fails name line from (s.rest ∙ f)

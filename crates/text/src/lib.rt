@@ -11,5 +11,5 @@ pub use digits::{
 };
 pub use lines::{LF, appended, line_end, without_cr};
 pub use words::{
-    Figure, SPACE, bytes, is_last, next_word, number, numbers, signed_number, word_end,
+    Figure, SPACE, after_word, bytes, is_last, next_word, number, numbers, signed_number, word_end,
 };

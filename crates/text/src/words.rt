@@ -1,6 +1,6 @@
 // The words of a line: names, decimal numbers and bytes of two hex digits. Only the space parts words.
 ghost use Rattle.std.specs.Prelude.{◌≡◌, ◌+◌, ◌*◌, ◌<◌, ◌≤◌, IfSome, leb, length, drop};
-ghost use Rattle.text.specs.Words.{word, word_at, ends_word, read_at, figure_of, words_of, Entered};
+ghost use Rattle.text.specs.Words.{word, word_at, ends_word, place_after, read_at, figure_of, words_of, Entered};
 ghost use Rattle.text.specs.Scan.{with_digit, starts_minus};
 ghost use Rattle.text.specs.Numbers.{number_of, signed_of, byte_of, hex_of};
 
@@ -35,9 +35,9 @@ pub fn next_word(line: &[u8], from: usize) -> usize
 pub fn word_end(line: &[u8], from: usize) -> usize
     ensures { (result ≡ from + length (word (drop from line.now))) × (from ≤ length line.now → result ≤ length line.now) }
 {
-    for at in from..line.len() {
-        if line[at] == SPACE {
-            return at;
+    for end in from..line.len() {
+        if line[end] == SPACE {
+            return end;
         }
     }
     from.max(line.len())
@@ -54,6 +54,21 @@ fn ends_word(line: &[u8], at: usize) -> bool
     ensures { result ≡ ends_word (drop at line.now) }
 {
     line.len() <= at || line[at] == SPACE
+}
+
+// The place after a word that stands whole at a place; none where it does not.
+// Nothing in this repository calls it, since the console matches its first word: a caller of the library has it.
+pub fn after_word(line: &[u8], from: usize, word: &[u8]) -> Option<usize>
+    ensures { result ≡ place_after word.now line.now from }
+{
+    let mut at = from;
+    for code in word {
+        if line.len() <= at || line[at] != *code {
+            return None;
+        }
+        at += 1;
+    }
+    ends_word(line, at).then_some(at)
 }
 
 // The next word as a number from 0 to `most`.

@@ -4,5 +4,5 @@ use Rattle.text.specs.Words.{is_space}
 use Rattle.text.proofs.Places.{Ahead}
 use Rattle.text.proofs.words.word_end.Given as goal
 
-abbrev pub invariant-loop-at : goal.invariant-loop-at
-invariant-loop-at l = Ahead is_space l.line l.from l.at × (l.at ≤ max l.from (length l.line))
+abbrev pub invariant-loop-end : goal.invariant-loop-end
+invariant-loop-end l = Ahead is_space l.line l.from l.end × (l.end ≤ max l.from (length l.line))
