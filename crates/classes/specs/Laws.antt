@@ -82,7 +82,8 @@ pub record Laws : Type 0 where
   pub one_request : (r : List ℕ) → OneRequest (recalled_pairs r)
   pub tidying : (before : List ℕ) (outcome : Outcome) (after : List ℕ) → Tidies before outcome after → outcome ≡ Done
       → AfterTidy before after
-  -- refused, nothing changed
+  -- refused, nothing changed: the store, here. An Err carries no edition and no settings, so of a recall this says no more than that; that a
+  -- refused recall leaves the board, and a refused keep tells edition 0, are laws of the board (facts/proofs/Classes)
   pub keep_refused : (s : Settings) (before : List ℕ) (refusal : Refusal) (after : List ℕ) → Keeps s before (Err refusal) after
       → after ≡ before
   pub recall_refused : (standing : Settings) (store : List ℕ) (edition : ℕ)

@@ -179,7 +179,7 @@ impl Week<'_> {
         Extremes::of(&cells[..record::cells_used(self.count)])
     }
 
-    // A record past the end has no bytes, and a cut one has fewer; `Record::of` reads those as zeros.
+    // A record past the end has no bytes, and a cut one has fewer; `Record::of` reads those as zeros. Inlined, as that is.
     #[inline(always)]
     fn record(&self, tick: usize) -> Record
         ensures { result ≡ record_at self.now.count self.now.records.now tick }
